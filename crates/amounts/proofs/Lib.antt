@@ -1,0 +1,4 @@
+pub mod Signed
+pub mod Steps
+pub mod Sums
+pub mod Magnitudes

@@ -1,0 +1,6 @@
+pub mod ByKind
+pub mod Largest
+pub mod Walks
+pub mod Prices
+pub mod Curves
+pub mod Joining

@@ -1,0 +1,47 @@
+-- `bids::bid_refusal`: the row of the kind over those of the points and that of the differential.
+use mathlib.Core.Bool.{not}
+use mathlib.Core.List.{[], _∷_}
+use borrow.Author.Needs.{needs}
+use Rattle.refusals.specs.Refusals.{row, first}
+use Rattle.refusals.proofs.Laws.{first-append}
+use Rattle.bids.specs.Rows.{differentialFits, pointRows, bidRows}
+use Rattle.bids.proofs.Curves.{point-rows-numbered}
+use Rattle.bids.proofs.bids.bid_refusal.Statement.{statement}
+use Rattle.bids.proofs.bids.bid_refusal.Tie as tie
+
+differential-fits-requires : tie.Need-differential-fits-requires
+differential-fits-requires c κs = search needs
+
+pick-requires : tie.Need-pick-requires
+pick-requires c κs = search needs
+
+points-refusal-requires : tie.Need-points-refusal-requires
+points-refusal-requires c κs = search needs
+
+or-else-requires : tie.Need-or-else-requires
+or-else-requires c κs = search needs
+
+is-kind-requires : tie.Need-is-kind-requires
+is-kind-requires c κs = search needs
+
+pick-requires-2 : tie.Need-pick-requires-2
+pick-requires-2 c κs = search needs
+
+returns : tie.Need-returns
+unfolding first bidRows
+returns c =
+    let s = c .before .before .before .before .before .before .before .args in
+    let last = row 8 (not (differentialFits (s .kind) (s .differential))) ∷ [] in
+    cc (first-append (pointRows (s .mwh .now) (s .prices .now)) last (point-rows-numbered (s .mwh .now) (s .prices .now)))
+
+pub bid-refusal-spec : {M : Type 1} → statement M
+bid-refusal-spec =
+    tie.close
+    (tie.spec
+    differential-fits-requires
+    pick-requires
+    points-refusal-requires
+    or-else-requires
+    is-kind-requires
+    pick-requires-2
+    returns)

@@ -1,0 +1,101 @@
+// Stage 1: the bid MWh and the requirement of a group, from its points.
+use crate::kinds::differential_fits;
+use crate::kinds::is_kind;
+use crate::kinds::unless_exempt;
+use crate::points::exposure;
+use crate::points::largest_mwh;
+use crate::points::points_refusal;
+use crate::points::total_mwh;
+use crate::points::wheel_exposure;
+use crate::types::BidAnswer;
+use refusals::Figure;
+use refusals::or_else;
+use refusals::pick;
+ghost use mathlib.Core.Path.{_≡_};
+ghost use mathlib.Core.List.{_∷_};
+ghost use mathlib.Core.Bool.{true};
+ghost use Rattle.amounts.specs.Limits.{isDifferential};
+ghost use Rattle.refusals.specs.Refusals.{first, None};
+ghost use Rattle.bids.specs.Points.{curve};
+ghost use Rattle.bids.specs.Rows.{pointRows, kindRow, bidRows};
+ghost use Rattle.bids.specs.Bids.{importBid, exportBid, hourAheadBid, bidMwh, bidRequirement};
+ghost use Rattle.bids.specs.Entries.{bidVerdict, bidAnswer, Exposed};
+
+// Refusals 2 and 5 to 8, in the table's order; 0 is none.
+fn bid_refusal(kind: u64, mwh: &[u64], prices: &[i64], differential: u64) -> u64
+    ensures { λ r. ⌜ r ≡ first (kindRow kind ∷ bidRows kind (now (mwh .entry)) (now (prices .entry)) differential) ⌝ }
+{
+    let last = pick(!differential_fits(kind, differential), 8, 0);
+    let below = or_else(points_refusal(mwh, prices), last);
+    pick(!is_kind(kind), 2, below)
+}
+
+fn import_bid(mwh: &[u64], prices: &[i64], differential: u64) -> i64
+    requires { ⌜ None (pointRows (now mwh) (now prices)) × (isDifferential differential ≡ true) ⌝ }
+    ensures { λ r. ⌜ r ≡ importBid (curve (now (mwh .entry)) (now (prices .entry))) differential ⌝ }
+{
+    (largest_mwh(mwh, prices) * differential) as i64
+}
+
+fn export_bid(mwh: &[u64], prices: &[i64], differential: u64) -> i64
+    requires { ⌜ None (pointRows (now mwh) (now prices)) × (isDifferential differential ≡ true) ⌝ }
+    ensures { λ r. ⌜ r ≡ exportBid (curve (now (mwh .entry)) (now (prices .entry))) differential ⌝ }
+{
+    let by_price = exposure(mwh, prices) as i64;
+    let by_differential = (total_mwh(mwh, prices) * differential) as i64;
+    amounts::larger(by_price, by_differential)
+}
+
+fn hour_ahead_bid(mwh: &[u64], prices: &[i64]) -> i64
+    requires { ⌜ None (pointRows (now mwh) (now prices)) ⌝ }
+    ensures { λ r. ⌜ r ≡ hourAheadBid (curve (now (mwh .entry)) (now (prices .entry))) ⌝ }
+{
+    exposure(mwh, prices) as i64
+}
+
+fn bid_mwh(kind: u64, mwh: &[u64], prices: &[i64]) -> u64
+    requires { ⌜ None (pointRows (now mwh) (now prices)) ⌝ }
+    ensures { λ r. ⌜ r ≡ bidMwh kind (curve (now (mwh .entry)) (now (prices .entry))) ⌝ }
+{
+    match kind {
+        2 | 3 => total_mwh(mwh, prices),
+        _ => largest_mwh(mwh, prices),
+    }
+}
+
+fn bid_requirement(kind: u64, mwh: &[u64], prices: &[i64], differential: u64, exempt: bool) -> i64
+    requires { ⌜ None (pointRows (now mwh) (now prices)) × (isDifferential differential ≡ true) ⌝ }
+    ensures { λ r. ⌜ r ≡ bidRequirement kind (curve (now (mwh .entry)) (now (prices .entry))) differential exempt ⌝ }
+{
+    match kind {
+        1 => unless_exempt(exempt, import_bid(mwh, prices, differential)),
+        2 => export_bid(mwh, prices, differential),
+        3 => hour_ahead_bid(mwh, prices),
+        _ => wheel_exposure(mwh, prices),
+    }
+}
+
+// The bid of a group, or the first refusal that applies.
+pub fn bid(kind: u64, mwh: &[u64], prices: &[i64], differential: u64, exempt: bool) -> BidAnswer
+    ensures { λ r. ⌜ r ≡ bidAnswer (bidVerdict kind (now (mwh .entry)) (now (prices .entry)) differential exempt) ⌝ }
+{
+    let refusal = bid_refusal(kind, mwh, prices, differential);
+    if refusal != 0 {
+        return BidAnswer::Refused(refusal);
+    }
+    BidAnswer::Stands(crate::types::Bid {
+        mwh: bid_mwh(kind, mwh, prices),
+        cents: bid_requirement(kind, mwh, prices, differential, exempt),
+    })
+}
+
+// The price exposure of a curve, or the first refusal that applies.
+pub fn price_exposure(mwh: &[u64], prices: &[i64]) -> Figure
+    ensures { λ r. ⌜ Exposed (now (mwh .entry)) (now (prices .entry)) r ⌝ }
+{
+    let refusal = points_refusal(mwh, prices);
+    if refusal != 0 {
+        return Figure::Refused(refusal);
+    }
+    Figure::Cents(exposure(mwh, prices) as i64)
+}

@@ -1,0 +1,114 @@
+-- A sound book stays sound under every accepted message: what stands under a key, what a change that fits does, and the next book.
+-- Assumes nothing.
+use mathlib.Core.Path.{_≡_, refl, sym, ap, _∙_, subst}
+use mathlib.Core.Bool.{Bool, true, false, _&&_, not}
+use mathlib.Core.List.{List}
+use mathlib.Core.Logic.{_⊎_, inl, inr, ⊎-elim}
+use mathlib.Core.Option.{Option, none, some}
+use lib.IntN.{ℤ}
+use Rattle.amounts.specs.Limits.{isSupport}
+use Rattle.amounts.specs.Lists.{every}
+use Rattle.refusals.specs.Refusals.{None}
+use Rattle.refusals.proofs.Laws.{and-left, and-right, and-both, never}
+use Rattle.records.specs.declared.types.Key.{Key}
+use Rattle.records.specs.declared.types.Record.{Record}
+use Rattle.plans.specs.declared.types.Message.{Message}
+use Rattle.plans.specs.declared.types.Change.{Change}
+use Rattle.plans.specs.declared.types.Change.the-variants.{Add, Redo, Move, Drop}
+use Rattle.plans.specs.declared.types.Deed.{Deed}
+use Rattle.plans.specs.declared.types.Deed.the-variants.{On, Refund}
+use Rattle.records.specs.Records.{blank, isFree, at, okRecord, okPlace}
+use Rattle.plans.specs.Plan.{keyOf}
+use Rattle.records.proofs.Keys.{at-key, at-used, free-blank, place-used}
+use Rattle.plans.proofs.Fits.{Under, Fine, Fits}
+use Rattle.book.specs.Places.{find, swap, missing, orElseBlank}
+use Rattle.book.specs.Books.{Book, lookup, sound, distinct, full, totals}
+use Rattle.book.specs.Step.{weighRows, change, rebook, done}
+use Rattle.book.proofs.Places.{find-passes, every-find}
+use Rattle.book.proofs.Effect.{Effect, effect-add, effect-put, effect-drop}
+
+-- ---- the parts of soundness
+module _ (b : Book) (h : sound b ≡ true) where
+  pub sound-support : isSupport (b .support) ≡ true
+  unfolding sound
+  sound-support = and-left (isSupport (b .support)) (every okPlace (b .records)) (and-left (isSupport (b .support) && every okPlace (b .records)) (distinct (b .records)) h)
+
+  pub sound-places : every okPlace (b .records) ≡ true
+  unfolding sound
+  sound-places = and-right (isSupport (b .support)) (every okPlace (b .records)) (and-left (isSupport (b .support) && every okPlace (b .records)) (distinct (b .records)) h)
+
+  pub sound-distinct : distinct (b .records) ≡ true
+  unfolding sound
+  sound-distinct = and-right (isSupport (b .support) && every okPlace (b .records)) (distinct (b .records)) h
+
+pub sound-make : (b : Book) (z : ℤ) (rs : List Record) → isSupport z ≡ true → every okPlace rs ≡ true → distinct rs ≡ true → sound (rebook b z rs) ≡ true
+unfolding sound
+sound-make b z rs s p d = and-both (isSupport z && every okPlace rs) (distinct rs) (and-both (isSupport z) (every okPlace rs) s p) d
+
+-- ---- what stands under a key
+under-by : (k : Key) (rs : List Record) → every okPlace rs ≡ true → (o : Option Record) → find (at k) rs ≡ o → Under k (orElseBlank blank o)
+unfolding orElseBlank
+under-by k rs h none e = inl refl
+under-by k rs h (some x) e =
+    let passes = find-passes (at k) x rs e in
+    inr (place-used x (every-find (at k) okPlace x rs h e) (at-used k x passes), sym (at-key k x passes))
+
+-- nothing, or a sound record of that key
+pub lookup-under : (b : Book) (k : Key) → sound b ≡ true → Under k (lookup b k)
+unfolding lookup
+lookup-under b k h = under-by k (b .records) (sound-places b h) (find (at k) (b .records)) refl
+
+none-by : (k : Key) (rs : List Record) (o : Option Record) → find (at k) rs ≡ o → isFree (orElseBlank blank o) ≡ true → o ≡ none
+unfolding orElseBlank
+none-by k rs none e h = refl
+none-by k rs (some x) e h = never (sym (at-used k x (find-passes (at k) x rs e)) ∙ h)
+
+some-by : (o : Option Record) → isFree (orElseBlank blank o) ≡ false → o ≡ some (orElseBlank blank o)
+unfolding orElseBlank
+some-by none h = never (sym h ∙ free-blank)
+some-by (some x) h = refl
+
+-- a key is not open exactly where nothing is found under it
+pub lookup-none : (b : Book) (k : Key) → isFree (lookup b k) ≡ true → find (at k) (b .records) ≡ none
+unfolding lookup
+lookup-none b k h = none-by k (b .records) (find (at k) (b .records)) refl h
+
+pub lookup-some : (b : Book) (k : Key) → isFree (lookup b k) ≡ false → find (at k) (b .records) ≡ some (lookup b k)
+unfolding lookup
+lookup-some b k h = some-by (find (at k) (b .records)) h
+
+-- ---- what a change that fits does
+
+-- what stands under the key afterwards
+abbrev pub leaves : Change → Option Record
+leaves (Add r) = some r
+leaves (Redo was r) = some r
+leaves (Move r) = some r
+leaves (Drop k) = none
+
+room : (b : Book) (r : Record) → None (weighRows (totals b) (On (Add r))) → missing (find isFree (b .records)) ≡ false
+unfolding None totals full
+room b r h = h .1 .0
+
+-- the places of a sound book, after a change that fits and is not turned away
+pub effect : (b : Book) (m : Message) (c : Change) → sound b ≡ true → Fits (lookup b (keyOf m)) m (On c) → None (weighRows (totals b) (On c))
+    → Effect (keyOf m) (b .records) (change c (b .records)) (leaves c)
+unfolding change
+effect b m (Add r) h f w =
+    effect-add (keyOf m) (b .records) (sound-places b h) (sound-distinct b h) r (lookup-none b (keyOf m) (f .free)) (room b r w) (f .fine)
+effect b m (Redo was r) h f w =
+    subst (λ (k : Key). Effect (keyOf m) (b .records) (swap (at k) r (b .records)) (some r)) (sym (f .fine .own))
+    (effect-put (keyOf m) (b .records) (sound-places b h) (sound-distinct b h) (lookup b (keyOf m)) r (lookup-some b (keyOf m) (f .used)) (f .fine))
+effect b m (Move r) h f w =
+    subst (λ (k : Key). Effect (keyOf m) (b .records) (swap (at k) r (b .records)) (some r)) (sym (f .fine .own))
+    (effect-put (keyOf m) (b .records) (sound-places b h) (sound-distinct b h) (lookup b (keyOf m)) r (lookup-some b (keyOf m) (f .used)) (f .fine))
+effect b m (Drop k) h f w =
+    subst (λ (l : Key). Effect (keyOf m) (b .records) (swap (at l) blank (b .records)) none) (sym (f .own))
+    (effect-drop (keyOf m) (b .records) (sound-places b h) (sound-distinct b h) (lookup b (keyOf m)) (lookup-some b (keyOf m) (f .used)))
+
+pub done-sound : (b : Book) (m : Message) (d : Deed) → sound b ≡ true → Fits (lookup b (keyOf m)) m d → None (weighRows (totals b) d) → sound (done b d) ≡ true
+unfolding done
+done-sound b m (On c) h f w =
+    let e = effect b m c h f w in
+    sound-make b (b .support) (change c (b .records)) (sound-support b h) (e .fine) (e .apart)
+done-sound b m (Refund z) h f w = sound-make b z (b .records) f (sound-places b h) (sound-distinct b h)

@@ -1,0 +1,10 @@
+pub mod Places
+pub mod Passed
+pub mod Sums
+pub mod Codes
+pub mod Distinct
+pub mod Effect
+pub mod Verdicts
+pub mod Kept
+pub mod Endings
+pub mod Carried

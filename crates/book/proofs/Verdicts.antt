@@ -1,0 +1,54 @@
+-- A message's verdict in the two parts of its table, and what its acceptance says.
+-- Assumes nothing.
+use mathlib.Core.Path.{_≡_, refl, sym, ap, _∙_}
+use mathlib.Core.Bool.{Bool, true, false, not, cond}
+use mathlib.Core.List.{List, [], _∷_, _++_}
+use Prim.Native.Nat.{ℕ}
+use native.Mathlib.Omega.{arith}
+use lib.Dec.{eqb}
+use lib.IntN.{ℤ}
+use borrow.Author.Tests.{eqb-true, eqb-false, eq-eqb}
+use Rattle.refusals.specs.Refusals.{Row, row, first, Verdict, refuse, accept, judge, answered, orElse, None, numbered}
+use Rattle.refusals.proofs.Laws.{first-append, numbered-append, answered-none, answered-some, judge-accept, judge-none, none-split, never}
+use Rattle.plans.specs.declared.types.Message.{Message}
+use Rattle.plans.specs.declared.types.Deed.{Deed}
+use Rattle.plans.specs.declared.types.Deed.the-variants.{On, Refund}
+use Rattle.plans.specs.declared.types.Change.the-variants.{Add, Redo, Move, Drop}
+use Rattle.plans.specs.Plan.{keyOf, asked, planRows, plan}
+use Rattle.plans.proofs.Fits.{plan-rows-numbered}
+use Rattle.book.specs.Books.{Book, Totals, lookup, sound, totals}
+use Rattle.book.specs.Step.{weighRows, askedOf, table, verdict, weigh, pass, concluded}
+
+pub weigh-rows-numbered : (t : Totals) (d : Deed) → numbered (weighRows t d) ≡ true
+unfolding numbered
+weigh-rows-numbered t (On (Add r)) = refl
+weigh-rows-numbered t (On (Redo was r)) = refl
+weigh-rows-numbered t (On (Move r)) = refl
+weigh-rows-numbered t (On (Drop k)) = refl
+weigh-rows-numbered t (Refund support) = refl
+
+-- two tables, one below the other: the lower is asked only where the upper has passed
+module _ {X : Type 0} (x : X) where
+  two-by : (n m : ℕ) (b : Bool) → eqb n 0 ≡ b → (w : X → Verdict X) → w x ≡ answered m x → (p : Verdict X → Verdict X)
+      → ((k : ℕ) → p (refuse k) ≡ refuse k) → ((y : X) → p (accept y) ≡ w y) → answered (cond b m n) x ≡ p (cond b (accept x) (refuse n))
+  two-by n m true e w h p r a = sym (a x ∙ h)
+  two-by n m false e w h p r a = answered-some n x (eqb-false n 0 e) ∙ sym (r n)
+
+module _ (b : Book) (m : Message) (ms : List ℕ) (ps : List ℤ) where
+  abbrev rows : List Row
+  rows = planRows (lookup b (keyOf m)) m ms ps
+
+  abbrev deed : Deed
+  deed = askedOf b m ms ps
+
+  verdict-by : (s : Bool) → sound b ≡ s → answered (cond (not s) 1 (first (rows ++ weighRows (totals b) deed))) deed ≡ cond s (pass (totals b) (plan (lookup b (keyOf m)) m ms ps)) (refuse 1)
+  unfolding plan judge answered askedOf pass weigh orElse
+  verdict-by true e =
+      ap (λ (n : ℕ). answered n deed) (first-append rows (weighRows (totals b) deed) (plan-rows-numbered (lookup b (keyOf m)) m ms ps))
+      ∙ two-by deed (first rows) (first (weighRows (totals b) deed)) (eqb (first rows) 0) refl (weigh (totals b)) refl (pass (totals b)) (λ k. refl) (λ y. refl)
+  verdict-by false e = answered-some 1 deed (λ z. omega arith)
+
+  -- refusals 2 to 13 see the message and the record under its key; 14 to 16 see the totals
+  pub verdict-is : verdict b m ms ps ≡ concluded b (plan (lookup b (keyOf m)) m ms ps)
+  unfolding verdict judge table first concluded
+  verdict-is = verdict-by (sound b) refl

@@ -1,0 +1,17 @@
+-- `Book::empty`: 256 free places.
+use borrow.Author.Needs.{needs}
+use lib.ListN.{replicate}
+use mir.Facts.{toZ-ofZ}
+use Rattle.book.specs.Books.{noRecords}
+use Rattle.book.proofs.types.Book.empty.Statement.{statement}
+use Rattle.book.proofs.types.Book.empty.Tie as tie
+
+blank-requires : tie.Need-blank-requires
+blank-requires c κs = search needs
+
+returns : tie.Need-returns
+unfolding noRecords
+returns c = λ i. record { records = replicate 256 (c .blank .ensures i); support = toZ-ofZ (c .before .fits .support) i }
+
+pub empty-spec : {M : Type 1} → statement M
+empty-spec = tie.close (tie.spec blank-requires returns)

@@ -1,0 +1,116 @@
+-- Document 01, 'Messages and stages' and 'Turned away, and why': what a message answers, and the next book.
+-- A message's refusals 2 to 13 and what it asks for stand in crate `records`, specs/Plan.antt.
+-- Assumes nothing.
+use mathlib.Core.Bool.{Bool, true, false, _&&_, not, cond}
+use mathlib.Core.List.{List, [], _∷_, _++_}
+use Prim.Native.Nat.{ℕ}
+use lib.IntN.{ℤ, pos, _+ℤ_, _-ℤ_}
+use lib.Signed.{ltZ}
+use Rattle.amounts.specs.Limits.{isSupport}
+use Rattle.refusals.specs.Refusals.{Row, row, Verdict, refuse, accept, judge}
+use Rattle.records.specs.declared.types.Record.{Record}
+use Rattle.plans.specs.declared.types.Message.{Message}
+use Rattle.plans.specs.declared.types.Change.{Change}
+use Rattle.plans.specs.declared.types.Change.the-variants.{Add, Redo, Move, Drop}
+use Rattle.plans.specs.declared.types.Deed.{Deed}
+use Rattle.plans.specs.declared.types.Deed.the-variants.{On, Refund}
+use Rattle.records.specs.Records.{blank, isFree, at}
+use Rattle.plans.specs.Plan.{keyOf, asked, planRows}
+pub use Rattle.book.specs.declared.types.Answer.{Answer}
+pub use Rattle.book.specs.declared.types.Outcome.{Outcome}
+pub use Rattle.book.specs.declared.types.Answer.the-variants.{Accepted, Refused}
+use Rattle.book.specs.Places.{swap}
+use Rattle.book.specs.Books.{Book, Totals, lookup, sound, held, owed, totals, suspended, heldShown, owedShown, empty}
+
+-- ---- refusals 14 to 16: they see the totals and what is asked for, and nothing else
+
+-- 14 'open or revise while suspended', 15 'open with 256 records', 16 'open: held + requirement above support;
+-- revise: the new requirement is above the old and held afterwards is above support'
+abbrev pub weighRows : Totals → Deed → List Row
+weighRows t (On (Add r)) = row 14 (suspended t) ∷ row 15 (t .full) ∷ row 16 (ltZ (t .support) (t .held +ℤ r .requirement)) ∷ []
+weighRows t (On (Redo was r)) =
+    row 14 (suspended t) ∷ row 16 (ltZ was (r .requirement) && ltZ (t .support) (t .held -ℤ was +ℤ r .requirement)) ∷ []
+weighRows t (On (Move r)) = []
+weighRows t (On (Drop k)) = []
+weighRows t (Refund support) = []
+
+-- ---- all the refusals that concern a message, in the paper's order
+
+unfoldable pub askedOf : Book → Message → List ℕ → List ℤ → Deed
+askedOf b m mwhs prices = asked (lookup b (keyOf m)) m mwhs prices
+
+unfoldable pub table : Book → Message → List ℕ → List ℤ → List Row
+table b m mwhs prices =
+    row 1 (not (sound b)) ∷ (planRows (lookup b (keyOf m)) m mwhs prices ++ weighRows (totals b) (askedOf b m mwhs prices))
+
+-- accepted exactly when none of them applies, else the first. proofs/Verdicts.antt has it in the two parts that the table is made of,
+-- 2 to 13 by the message and its record, then 14 to 16 by the totals (verdict-is)
+unfoldable pub verdict : Book → Message → List ℕ → List ℤ → Verdict Deed
+verdict b m mwhs prices = judge (table b m mwhs prices) (askedOf b m mwhs prices)
+
+-- the second part, where the first has passed
+unfoldable pub weigh : Totals → Deed → Verdict Deed
+weigh t d = judge (weighRows t d) d
+
+unfoldable pub pass : Totals → Verdict Deed → Verdict Deed
+pass t (refuse n) = refuse n
+pass t (accept d) = weigh t d
+
+unfoldable pub concluded : Book → Verdict Deed → Verdict Deed
+concluded b v = cond (sound b) (pass (totals b) v) (refuse 1)
+
+-- ---- the next book
+
+-- 'A new record takes the lowest free place; .. freed places are used again'
+unfoldable pub change : Change → List Record → List Record
+change (Add r) places = swap isFree r places
+change (Redo was r) places = swap (at (r .key)) r places
+change (Move r) places = swap (at (r .key)) r places
+change (Drop k) places = swap (at k) blank places
+
+-- the one way in which a book follows from another
+abbrev pub rebook : Book → ℤ → List Record → Book
+rebook b support places = record { records = places; support = support }
+
+unfoldable pub done : Book → Deed → Book
+done b (On c) = rebook b (b .support) (change c (b .records))
+done b (Refund support) = rebook b support (b .records)
+
+-- ---- the answer
+
+-- 'the key's requirement (0 after withdraw, pay and support)'
+abbrev pub answeredBy : Deed → ℤ
+answeredBy (On (Add r)) = r .requirement
+answeredBy (On (Redo was r)) = r .requirement
+answeredBy (On (Move r)) = r .requirement
+answeredBy (On (Drop k)) = pos 0
+answeredBy (Refund support) = pos 0
+
+-- 'Acceptance answers the key's requirement, held and net owed of the next book. A refusal answers its number, ..
+-- the held and net owed of the unchanged book (both 0 for 1)'; refusal 1 is given exactly where the book is not sound
+unfoldable pub outcome : Book → Verdict Deed → Outcome
+outcome b (refuse n) = record { book = b; answer = Refused n (heldShown b) (owedShown b) }
+outcome b (accept d) = record { book = done b d; answer = Accepted (answeredBy d) (held (done b d)) (owed (done b d)) }
+
+unfoldable pub step : Book → Message → List ℕ → List ℤ → Outcome
+step b m mwhs prices = outcome b (verdict b m mwhs prices)
+
+-- 'an out-of-range support answers refusal 9 and an empty book of support 0'
+unfoldable pub fresh : ℤ → Outcome
+fresh support =
+    cond (isSupport support)
+    (record { book = empty support; answer = Accepted (pos 0) (pos 0) (pos 0) })
+    (record { book = empty (pos 0); answer = Refused 9 (pos 0) (pos 0) })
+
+-- ---- the paper's number and values for each case of an answer
+
+pub record Reply : Type 0 where
+  pub number : ℕ
+  pub requirement : ℤ
+  pub held : ℤ
+  pub owed : ℤ
+
+-- 0 is no refusal; 'a refusal answers its number, requirement 0'
+abbrev pub reply : Answer → Reply
+reply (Accepted requirement held owed) = record { number = 0; requirement = requirement; held = held; owed = owed }
+reply (Refused number held owed) = record { number = number; requirement = pos 0; held = held; owed = owed }

@@ -1,0 +1,9 @@
+// One customer's book.
+mod conclude;
+mod fresh;
+mod messages;
+mod soundness;
+mod totals;
+pub mod types;
+mod walks;
+mod weigh;

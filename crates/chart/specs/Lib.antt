@@ -1,0 +1,3 @@
+pub mod Published
+pub mod Groups
+pub mod Lookup

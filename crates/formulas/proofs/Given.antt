@@ -1,0 +1,95 @@
+-- What the tests of the limits say: of a number as the code reads it, and of the numbers of a post or a finish where no row applies.
+-- Assumes nothing.
+use mathlib.Core.Path.{_≡_, ap, _∙_}
+use mathlib.Core.Bool.{true, _&&_, _||_, not}
+use Prim.Native.Nat.{ℕ}
+use native.Mathlib.Omega.{arith}
+use lib.Dec.{leb, eqb}
+use lib.IntN.{ℤ, pos}
+use mir.Syntax.{w64}
+use mir.Val.{SFits, toZ, ofZ}
+use mir.Facts.{toZ-ofZ}
+use borrow.Author.Tests.{leb-true, not-false}
+use Rattle.amounts.specs.Limits.{isQuantity, isPrice, isNil, isDifferential, isBid, isWheel}
+use Rattle.amounts.proofs.Signed.{range-true}
+use Rattle.amounts.proofs.Steps.{Known, param, quantity}
+use Rattle.refusals.specs.Refusals.{None}
+use Rattle.refusals.proofs.Laws.{and-left, and-right}
+use Rattle.bids.specs.Rows.{differentialFits, pendingFits}
+use Rattle.formulas.specs.Rows.{pricesFit, deliveryRows, postedRows, finishedRows}
+
+-- ---- a parameter that passed its test, as the code reads it
+
+-- a quantity and a differential after `as i64`, and that the cast loses nothing
+pub mwh : (n : ℕ) → isQuantity n ≡ true → Known (toZ w64 n) (pos n) 0 640000
+mwh n h = quantity (leb-true n 640000 h) tt
+
+pub mwh-cast : (n : ℕ) → isQuantity n ≡ true → SFits w64 (pos n)
+mwh-cast n h = record { sfits = omega (arith, leb-true n 640000 h) }
+
+pub differential : (n : ℕ) → isDifferential n ≡ true → Known (toZ w64 n) (pos n) 0 1000000
+differential n h = quantity (leb-true n 1000000 h) tt
+
+pub differential-cast : (n : ℕ) → isDifferential n ≡ true → SFits w64 (pos n)
+differential-cast n h = record { sfits = omega (arith, leb-true n 1000000 h) }
+
+pub price : {z : ℤ} → SFits w64 z → isPrice z ≡ true → Known (toZ w64 (ofZ w64 z)) z 1000000 1000000
+price {z} f h = param f (range-true 1000000 1000000 z h)
+
+pub pending : {z : ℤ} → SFits w64 z → isBid z ≡ true → Known (toZ w64 (ofZ w64 z)) z 0 640000000000
+pending {z} f h = param f (range-true 0 640000000000 z h)
+
+-- and handed on to a call
+pub handed-price : {z : ℤ} → SFits w64 z → isPrice z ≡ true → isPrice (toZ w64 (ofZ w64 z)) ≡ true
+handed-price f h = ap isPrice (toZ-ofZ f) ∙ h
+
+pub handed-pending : {z : ℤ} → SFits w64 z → isBid z ≡ true → isBid (toZ w64 (ofZ w64 z)) ≡ true
+handed-pending f h = ap isBid (toZ-ofZ f) ∙ h
+
+-- ---- the numbers of a post or a finish that no row refuses
+
+pub record Prices (p q : ℤ) : Type 0 where
+  pub first : isPrice p ≡ true
+  pub second : isPrice q ≡ true
+
+prices : (kind : ℕ) (p q : ℤ) → pricesFit kind p q ≡ true → Prices p q
+prices kind p q h =
+    let both = and-left (isPrice p && isPrice q) (eqb kind 4 || isNil q) h in
+    record { first = and-left (isPrice p) (isPrice q) both; second = and-right (isPrice p) (isPrice q) both }
+
+pub record Posting (d s : ℕ) (p q : ℤ) : Type 0 where
+  pub differential : isDifferential d ≡ true
+  pub schedule : isQuantity s ≡ true
+  pub prices : Prices p q
+
+pub posting : (kind d s : ℕ) (p q : ℤ) → None (postedRows kind d s p q) → Posting d s p q
+unfolding None postedRows deliveryRows
+posting kind d s p q h = record {
+  differential = and-left (isDifferential d) (leb kind 2 || eqb d 0) (not-false (differentialFits kind d) (h .1 .1 .0));
+  schedule = not-false (isQuantity s) (h .0);
+  prices = prices kind p q (not-false (pricesFit kind p q) (h .1 .0));
+}
+
+pub record Finish (kind s : ℕ) (dayAhead posted : ℤ) (a : ℕ) (p q : ℤ) : Type 0 where
+  pub schedule : isQuantity s ≡ true
+  pub actual : isQuantity a ≡ true
+  pub kept : isPrice dayAhead ≡ true
+  pub prices : Prices p q
+  pub pending : pendingFits kind posted ≡ true
+
+pub finish : (kind s : ℕ) (dayAhead posted : ℤ) (a : ℕ) (p q : ℤ) → None (finishedRows kind s dayAhead posted a p q) → Finish kind s dayAhead posted a p q
+unfolding None finishedRows
+finish kind s dayAhead posted a p q h =
+    let quantities = not-false (isQuantity s && isQuantity a) (h .0) in
+    let priced = not-false (isPrice dayAhead && pricesFit kind p q) (h .1 .0) in
+    record {
+      schedule = and-left (isQuantity s) (isQuantity a) quantities;
+      actual = and-right (isQuantity s) (isQuantity a) quantities;
+      kept = and-left (isPrice dayAhead) (pricesFit kind p q) priced;
+      prices = prices kind p q (and-right (isPrice dayAhead) (pricesFit kind p q) priced);
+      pending = not-false (pendingFits kind posted) (h .1 .1 .0);
+    }
+
+-- whatever the kind, a requirement of stages 1 and 2 is one of kind 1's range
+pub pending-bid : (kind : ℕ) (z : ℤ) → pendingFits kind z ≡ true → isBid z ≡ true
+pending-bid kind z h = and-left (isBid z) (not (eqb kind 4) || isWheel z) h

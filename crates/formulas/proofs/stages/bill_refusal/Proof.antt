@@ -1,0 +1,20 @@
+-- `formulas::stages::bill_refusal`: the pick is the row.
+use borrow.Author.Needs.{needs}
+use mir.Facts.{toZ-ofZ}
+use Rattle.refusals.specs.Refusals.{first}
+use Rattle.formulas.specs.Rows.{billRows}
+use Rattle.formulas.proofs.stages.bill_refusal.Statement.{statement}
+use Rattle.formulas.proofs.stages.bill_refusal.Tie as tie
+
+is-bill-requires : tie.Need-is-bill-requires
+is-bill-requires c κs = search needs
+
+pick-requires : tie.Need-pick-requires
+pick-requires c κs = search needs
+
+returns : tie.Need-returns
+unfolding first billRows
+returns c = cc (toZ-ofZ (c .before .before .fits .amount))
+
+pub bill-refusal-spec : {M : Type 1} → statement M
+bill-refusal-spec = tie.close (tie.spec is-bill-requires pick-requires returns)

@@ -1,0 +1,59 @@
+-- `formulas::stages::posted_refusal`: the picks are the rows, and the delivery's stand above the last two.
+use borrow.Author.Needs.{needs}
+use mathlib.Core.Bool.{not}
+use mathlib.Core.List.{_∷_, []}
+use lib.Dec.{eqb}
+use mir.Facts.{toZ-ofZ}
+use Rattle.refusals.specs.Refusals.{row, first}
+use Rattle.refusals.proofs.Laws.{first-append}
+use Rattle.bids.specs.Rows.{differentialFits}
+use Rattle.formulas.specs.Rows.{deliveryRows, postedRows}
+use Rattle.formulas.proofs.StageLaws.{delivery-rows-numbered}
+use Rattle.formulas.proofs.stages.posted_refusal.Statement.{statement}
+use Rattle.formulas.proofs.stages.posted_refusal.Tie as tie
+
+delivery-refusal-requires : tie.Need-delivery-refusal-requires
+delivery-refusal-requires c κs = search needs
+
+pick-requires : tie.Need-pick-requires
+pick-requires c κs = search needs
+
+differential-fits-requires : tie.Need-differential-fits-requires
+differential-fits-requires c κs = search needs
+
+pick-requires-2 : tie.Need-pick-requires-2
+pick-requires-2 c κs = search needs
+
+is-kind-requires : tie.Need-is-kind-requires
+is-kind-requires c κs = search needs
+
+or-else-requires : tie.Need-or-else-requires
+or-else-requires c κs = search needs
+
+pick-requires-3 : tie.Need-pick-requires-3
+pick-requires-3 c κs = search needs
+
+returns : tie.Need-returns
+unfolding first postedRows
+returns c =
+    let s = c .before .before .before .before .before .before .before in
+    let a = s .args in
+    let below = row 8 (not (differentialFits (a .kind) (a .differential))) ∷ row 12 (eqb (a .kind) 3) ∷ [] in
+    cc (
+      first-append (deliveryRows (a .kind) (a .schedule) (a .price) (a .second)) below (delivery-rows-numbered (a .kind) (a .schedule) (a .price) (a .second)),
+      toZ-ofZ (s .fits .price),
+      toZ-ofZ (s .fits .second),
+    )
+
+pub posted-refusal-spec : {M : Type 1} → statement M
+posted-refusal-spec =
+    tie.close
+    (tie.spec
+    delivery-refusal-requires
+    pick-requires
+    differential-fits-requires
+    pick-requires-2
+    is-kind-requires
+    or-else-requires
+    pick-requires-3
+    returns)

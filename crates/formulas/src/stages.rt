@@ -1,0 +1,293 @@
+// The stages after the bid: posted, finished and billed, each by the kind of transaction.
+ghost use mathlib.Core.Path.{_≡_};
+ghost use mathlib.Core.Bool.{true};
+ghost use mathlib.Core.List.{_∷_};
+ghost use lib.IntN.{pos, _-ℤ_};
+ghost use Rattle.amounts.specs.Amount.{Max};
+ghost use Rattle.amounts.specs.Limits.{isQuantity, isPrice, isDifferential, isBid};
+ghost use Rattle.refusals.specs.Refusals.{first, None};
+ghost use Rattle.refusals.specs.Figures.{figure};
+ghost use Rattle.bids.specs.Rows.{kindRow, pendingFits};
+ghost use Rattle.formulas.specs.Stages.{importPosted, balancing, importFinished, exportPosted, exportFinished, hourAheadFinished, wheelPosted, wheelFinished, postedRequirement, finishedRequirement};
+ghost use Rattle.formulas.specs.Rows.{pricesFit, deliveryRows, postedRows, finishedRows, billRows};
+ghost use Rattle.formulas.specs.Entries.{postedVerdict, finishedVerdict, billedVerdict};
+use bids::differential_fits;
+use bids::is_kind;
+use bids::unless_exempt;
+use refusals::Figure;
+
+// ---- the rows that refuse
+
+fn prices_fit(kind: u64, price: i64, second: i64) -> bool
+    ensures { λ r. ⌜ r ≡ pricesFit kind price second ⌝ }
+{
+    amounts::Price { cents: price }.in_range()
+        & amounts::Price { cents: second }.in_range()
+        & ((kind == 4) | amounts::Price { cents: second }.is_nil())
+}
+
+fn pending_fits(kind: u64, cents: i64) -> bool
+    ensures { λ r. ⌜ r ≡ pendingFits kind cents ⌝ }
+{
+    amounts::Amount { cents }.is_bid() & (!(kind == 4) | amounts::Amount { cents }.is_wheel())
+}
+
+// Refusals 6 and 7 of a post or a finish; 0 is none.
+pub fn delivery_refusal(kind: u64, mwh: u64, price: i64, second: i64) -> u64
+    ensures { λ r. ⌜ r ≡ first (deliveryRows kind mwh price second) ⌝ }
+{
+    let prices = refusals::pick(!prices_fit(kind, price, second), 7, 0);
+    refusals::pick(!amounts::Quantity { mwh }.in_range(), 6, prices)
+}
+
+fn posted_refusal(kind: u64, differential: u64, schedule: u64, price: i64, second: i64) -> u64
+    ensures { λ r. ⌜ r ≡ first (kindRow kind ∷ postedRows kind differential schedule price second) ⌝ }
+{
+    let delivery = delivery_refusal(kind, schedule, price, second);
+    let not_for_hour_ahead = refusals::pick(kind == 3, 12, 0);
+    let below = refusals::pick(
+        !differential_fits(kind, differential),
+        8,
+        not_for_hour_ahead,
+    );
+    refusals::pick(!is_kind(kind), 2, refusals::or_else(delivery, below))
+}
+
+fn finished_refusal(
+    kind: u64,
+    schedule: u64,
+    day_ahead: i64,
+    posted_cents: i64,
+    actual: u64,
+    price: i64,
+    second: i64,
+) -> u64
+    ensures { λ r. ⌜ r ≡ first (kindRow kind ∷ finishedRows kind schedule «day_ahead» «posted_cents» actual price second) ⌝ }
+{
+    let amount = refusals::pick(!pending_fits(kind, posted_cents), 9, 0);
+    let priced = amounts::Price { cents: day_ahead }.in_range() & prices_fit(kind, price, second);
+    let prices = refusals::pick(!priced, 7, amount);
+    let counted = amounts::Quantity { mwh: schedule }.in_range()
+        & amounts::Quantity { mwh: actual }.in_range();
+    let quantities = refusals::pick(!counted, 6, prices);
+    refusals::pick(!is_kind(kind), 2, quantities)
+}
+
+fn bill_refusal(amount: i64) -> u64
+    ensures { λ r. ⌜ r ≡ first (billRows amount) ⌝ }
+{
+    refusals::pick(!amounts::Amount { cents: amount }.is_bill(), 9, 0)
+}
+
+// ---- import
+
+fn import_posted(schedule: u64, differential: u64) -> i64
+    requires { ⌜ isQuantity schedule ≡ true ⌝ }
+    requires { ⌜ isDifferential differential ≡ true ⌝ }
+    ensures { λ r. ⌜ r ≡ importPosted schedule differential ⌝ }
+{
+    (schedule * differential) as i64
+}
+
+// Also what an export adds above its schedule, with the two quantities changed about.
+fn balance(schedule: u64, actual: u64, real_time: i64) -> i64
+    requires { ⌜ isQuantity schedule ≡ true ⌝ }
+    requires { ⌜ isQuantity actual ≡ true ⌝ }
+    requires { ⌜ isPrice «real_time» ≡ true ⌝ }
+    ensures { λ r. ⌜ r ≡ balancing schedule actual «real_time» ⌝ }
+{
+    amounts::floored((schedule as i64 - actual as i64) * real_time)
+}
+
+fn import_finished(schedule: u64, day_ahead: i64, actual: u64, real_time: i64) -> i64
+    requires { ⌜ isQuantity schedule ≡ true ⌝ }
+    requires { ⌜ isPrice «day_ahead» ≡ true ⌝ }
+    requires { ⌜ isQuantity actual ≡ true ⌝ }
+    requires { ⌜ isPrice «real_time» ≡ true ⌝ }
+    ensures { λ r. ⌜ r ≡ importFinished schedule «day_ahead» actual «real_time» ⌝ }
+{
+    amounts::floored(balance(schedule, actual, real_time) - schedule as i64 * day_ahead)
+}
+
+// ---- export
+
+fn export_posted(schedule: u64, day_ahead: i64, differential: u64) -> i64
+    requires { ⌜ isQuantity schedule ≡ true ⌝ }
+    requires { ⌜ isPrice «day_ahead» ≡ true ⌝ }
+    requires { ⌜ isDifferential differential ≡ true ⌝ }
+    ensures { λ r. ⌜ r ≡ exportPosted schedule «day_ahead» differential ⌝ }
+{
+    schedule as i64 * amounts::larger(day_ahead, differential as i64)
+}
+
+fn export_finished(posted_cents: i64, schedule: u64, actual: u64, real_time: i64) -> i64
+    requires { ⌜ isBid «posted_cents» ≡ true ⌝ }
+    requires { ⌜ isQuantity schedule ≡ true ⌝ }
+    requires { ⌜ isQuantity actual ≡ true ⌝ }
+    requires { ⌜ isPrice «real_time» ≡ true ⌝ }
+    ensures { λ r. ⌜ r ≡ exportFinished «posted_cents» schedule actual «real_time» ⌝ }
+{
+    posted_cents - balance(schedule, actual, real_time) + balance(actual, schedule, real_time)
+}
+
+fn hour_ahead_finished(actual: u64, real_time: i64) -> i64
+    requires { ⌜ isQuantity actual ≡ true ⌝ }
+    requires { ⌜ isPrice «real_time» ≡ true ⌝ }
+    ensures { λ r. ⌜ r ≡ hourAheadFinished actual «real_time» ⌝ }
+{
+    amounts::floored(actual as i64 * real_time)
+}
+
+// ---- wheel
+
+fn wheel_posted(schedule: u64, withdrawal: i64, injection: i64) -> i64
+    requires { ⌜ isQuantity schedule ≡ true ⌝ }
+    requires { ⌜ isPrice withdrawal ≡ true ⌝ }
+    requires { ⌜ isPrice injection ≡ true ⌝ }
+    ensures { λ r. ⌜ r ≡ wheelPosted schedule withdrawal injection ⌝ }
+{
+    amounts::floored(schedule as i64 * (withdrawal - injection))
+}
+
+// What one quantity is above another.
+fn excess(mwh: u64, other: u64) -> i64
+    requires { ⌜ isQuantity mwh ≡ true ⌝ }
+    requires { ⌜ isQuantity other ≡ true ⌝ }
+    ensures { λ r. ⌜ r ≡ Max (pos mwh -ℤ pos other) (pos 0) ⌝ }
+{
+    amounts::floored(mwh as i64 - other as i64)
+}
+
+fn wheel_finished(
+    posted_cents: i64,
+    schedule: u64,
+    actual: u64,
+    withdrawal: i64,
+    injection: i64,
+) -> i64
+    requires { ⌜ isBid «posted_cents» ≡ true ⌝ }
+    requires { ⌜ isQuantity schedule ≡ true ⌝ }
+    requires { ⌜ isQuantity actual ≡ true ⌝ }
+    requires { ⌜ isPrice withdrawal ≡ true ⌝ }
+    requires { ⌜ isPrice injection ≡ true ⌝ }
+    ensures { λ r. ⌜ r ≡ wheelFinished «posted_cents» schedule actual withdrawal injection ⌝ }
+{
+    let difference = withdrawal - injection;
+    let less = excess(schedule, actual) * difference;
+    let more = amounts::floored(excess(actual, schedule) * difference);
+    posted_cents - less + more
+}
+
+// ---- by kind
+
+fn posted_requirement(
+    kind: u64,
+    differential: u64,
+    exempt: bool,
+    schedule: u64,
+    price: i64,
+    second: i64,
+) -> i64
+    requires { ⌜ None (postedRows kind differential schedule price second) ⌝ }
+    ensures { λ r. ⌜ r ≡ postedRequirement kind differential exempt schedule price second ⌝ }
+{
+    match kind {
+        1 => unless_exempt(exempt, import_posted(schedule, differential)),
+        2 => export_posted(schedule, price, differential),
+        // Kind 3 has no stage 2: its row refuses first.
+        3 => 0,
+        _ => wheel_posted(schedule, price, second),
+    }
+}
+
+fn finished_requirement(
+    kind: u64,
+    exempt: bool,
+    schedule: u64,
+    day_ahead: i64,
+    posted_cents: i64,
+    actual: u64,
+    price: i64,
+    second: i64,
+) -> i64
+    requires { ⌜ None (finishedRows kind schedule «day_ahead» «posted_cents» actual price second) ⌝ }
+    ensures { λ r. ⌜ r ≡ finishedRequirement kind exempt schedule «day_ahead» «posted_cents» actual price second ⌝ }
+{
+    match kind {
+        1 => unless_exempt(exempt, import_finished(schedule, day_ahead, actual, price)),
+        2 => export_finished(posted_cents, schedule, actual, price),
+        3 => hour_ahead_finished(actual, price),
+        _ => wheel_finished(posted_cents, schedule, actual, price, second),
+    }
+}
+
+// ---- the entries
+
+// Stage 2: the requirement of a posted schedule. Kinds 1 to 3 use the first price.
+pub fn posted(
+    kind: u64,
+    differential: u64,
+    exempt: bool,
+    schedule: u64,
+    price: i64,
+    second: i64,
+) -> Figure
+    ensures { λ r. ⌜ r ≡ figure (postedVerdict kind differential exempt schedule price second) ⌝ }
+{
+    let number = posted_refusal(kind, differential, schedule, price, second);
+    if number == 0 {
+        Figure::Cents(posted_requirement(kind, differential, exempt, schedule, price, second))
+    } else {
+        Figure::Refused(number)
+    }
+}
+
+// Stage 3: the requirement once the actual MWh are known. `posted_cents` is what the record holds at stage 2.
+pub fn finished(
+    kind: u64,
+    exempt: bool,
+    schedule: u64,
+    day_ahead: i64,
+    posted_cents: i64,
+    actual: u64,
+    price: i64,
+    second: i64,
+) -> Figure
+    ensures { λ r. ⌜ r ≡ figure (finishedVerdict kind exempt schedule «day_ahead» «posted_cents» actual price second) ⌝ }
+{
+    let number = finished_refusal(
+        kind,
+        schedule,
+        day_ahead,
+        posted_cents,
+        actual,
+        price,
+        second,
+    );
+    if number == 0 {
+        Figure::Cents(finished_requirement(
+            kind,
+            exempt,
+            schedule,
+            day_ahead,
+            posted_cents,
+            actual,
+            price,
+            second,
+        ))
+    } else {
+        Figure::Refused(number)
+    }
+}
+
+// Stage 4: the bill, signed.
+pub fn billed(amount: i64) -> Figure
+    ensures { λ r. ⌜ r ≡ figure (billedVerdict amount) ⌝ }
+{
+    let number = bill_refusal(amount);
+    if number == 0 {
+        Figure::Cents(amount)
+    } else {
+        Figure::Refused(number)
+    }
+}

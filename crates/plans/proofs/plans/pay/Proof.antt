@@ -1,0 +1,28 @@
+-- `plans::pay`: its table is the key's rows over the stage's.
+use borrow.Author.Needs.{needs}
+use Rattle.refusals.specs.Refusals.{judge}
+use Rattle.plans.specs.Plan.{plan}
+use Rattle.plans.proofs.Tables.{key-above}
+use Rattle.plans.proofs.plans.pay.Statement.{statement}
+use Rattle.plans.proofs.plans.pay.Tie as tie
+
+refusal-requires : tie.Need-refusal-requires
+refusal-requires c κs = search needs
+
+stage-refusal-requires : tie.Need-stage-refusal-requires
+stage-refusal-requires c κs = search needs
+
+or-else-requires : tie.Need-or-else-requires
+or-else-requires c κs = search needs
+
+answer-requires : tie.Need-answer-requires
+answer-requires c κs = search needs
+
+returns : tie.Need-returns
+unfolding plan judge
+returns c = rw (key-above, c .answer .ensures, c .before .or-else .ensures, c .before .before .stage-refusal .ensures, c .before .before .before .before .refusal .ensures)
+
+pub pay-spec : {M : Type 1} → statement M
+pay-spec =
+    tie.close
+    (tie.spec refusal-requires stage-refusal-requires or-else-requires answer-requires returns)

@@ -1,0 +1,34 @@
+-- `plans::Finishing::plan` answers its table's number, or the record at stage 3.
+use borrow.Author.Needs.{needs}
+use Rattle.amounts.proofs.Steps.{back}
+use Rattle.refusals.specs.Refusals.{judge}
+use Rattle.plans.specs.Plan.{plan}
+use Rattle.plans.proofs.types.Finishing.plan.Statement.{statement}
+use Rattle.plans.proofs.types.Finishing.plan.Tie as tie
+
+cents-requires : tie.Need-cents-requires
+cents-requires c κs = search needs
+
+moved-requires : tie.Need-moved-requires
+moved-requires c κs = search needs
+
+refusal-requires : tie.Need-refusal-requires
+refusal-requires c κs = search needs
+
+answer-requires : tie.Need-answer-requires
+answer-requires c κs = search needs
+
+returns : tie.Need-returns
+unfolding plan judge
+returns c =
+    rw (
+      c .answer .ensures,
+      c .before .refusal .ensures,
+      c .before .before .moved .ensures,
+      back (c .before .before .before .cents .result) (c .before .before .before .cents .ok),
+      c .before .before .before .cents .ensures,
+    )
+
+pub plan-spec : {M : Type 1} → statement M
+plan-spec =
+    tie.close (tie.spec cents-requires moved-requires refusal-requires answer-requires returns)

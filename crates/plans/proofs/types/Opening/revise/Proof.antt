@@ -1,0 +1,70 @@
+-- `plans::Opening::revise`: its table is the key's rows over the bid's over the stage's; what it asks for is the new group's record, and the old requirement.
+use mathlib.Core.Path.{ap}
+use Prim.Native.Nat.{ℕ}
+use borrow.Author.Needs.{needs}
+use Rattle.amounts.proofs.Steps.{back}
+use Rattle.refusals.specs.Refusals.{judge, answered}
+use Rattle.plans.specs.Plan.{bidFor, plan, Revise, asked, planned}
+use Rattle.plans.proofs.Tables.{revise-table}
+use Rattle.plans.proofs.types.Opening.revise.Statement.{statement}
+use Rattle.plans.proofs.types.Opening.revise.Tie as tie
+
+bid-requires : tie.Need-bid-requires
+bid-requires c κs = search needs
+
+refusal-requires : tie.Need-refusal-requires
+refusal-requires c κs = search needs
+
+refusal-requires-2 : tie.Need-refusal-requires-2
+refusal-requires-2 c κs = search needs
+
+stage-refusal-requires : tie.Need-stage-refusal-requires
+stage-refusal-requires c κs = search needs
+
+or-else-requires : tie.Need-or-else-requires
+or-else-requires c κs = search needs
+
+or-else-requires-2 : tie.Need-or-else-requires-2
+or-else-requires-2 c κs = search needs
+
+bid-requires-2 : tie.Need-bid-requires-2
+bid-requires-2 c κs = search needs
+
+opened-requires : tie.Need-opened-requires
+opened-requires c κs = search needs
+
+answer-requires : tie.Need-answer-requires
+answer-requires c κs = search needs
+
+returns : tie.Need-returns
+unfolding plan judge bidFor
+returns c =
+    let a = c .before .before .before .before .before .before .before .before .before .before .before .before .args in
+    rw (
+      c .answer .ensures,
+      c .before .before .opened .ensures,
+      c .before .before .before .bid2 .ensures,
+      c .before .before .before .before .or-else2 .ensures,
+      c .before .before .before .before .before .or-else .ensures,
+      c .before .before .before .before .before .before .stage-refusal .ensures,
+      c .before .before .before .before .before .before .before .before .refusal2 .ensures,
+      c .before .before .before .before .before .before .before .before .before .refusal .ensures,
+      c .before .before .before .before .before .before .before .before .before .before .bid .ensures,
+      back (a .old .requirement) (c .before .struct-told .given .1 .1 .1 .1 .1 .1 .1 .0 .1),
+    )
+    (ap (λ (n : ℕ). planned (answered n (asked (a .old) (Revise (a .self)) (a .mwh .now) (a .prices .now)))) (revise-table (a .old) (a .self) (a .mwh .now) (a .prices .now)))
+
+pub revise-spec : {M : Type 1} → statement M
+revise-spec =
+    tie.close
+    (tie.spec
+    bid-requires
+    refusal-requires
+    refusal-requires-2
+    stage-refusal-requires
+    or-else-requires
+    or-else-requires-2
+    bid-requires-2
+    opened-requires
+    answer-requires
+    returns)

@@ -1,0 +1,34 @@
+-- `plans::Posting::plan` answers its table's number, or the record at stage 2.
+use borrow.Author.Needs.{needs}
+use Rattle.amounts.proofs.Steps.{back}
+use Rattle.refusals.specs.Refusals.{judge}
+use Rattle.plans.specs.Plan.{plan}
+use Rattle.plans.proofs.types.Posting.plan.Statement.{statement}
+use Rattle.plans.proofs.types.Posting.plan.Tie as tie
+
+cents-requires : tie.Need-cents-requires
+cents-requires c κs = search needs
+
+posted-requires : tie.Need-posted-requires
+posted-requires c κs = search needs
+
+refusal-requires : tie.Need-refusal-requires
+refusal-requires c κs = search needs
+
+answer-requires : tie.Need-answer-requires
+answer-requires c κs = search needs
+
+returns : tie.Need-returns
+unfolding plan judge
+returns c =
+    rw (
+      c .answer .ensures,
+      c .before .refusal .ensures,
+      c .before .before .posted .ensures,
+      back (c .before .before .before .cents .result) (c .before .before .before .cents .ok),
+      c .before .before .before .cents .ensures,
+    )
+
+pub plan-spec : {M : Type 1} → statement M
+plan-spec =
+    tie.close (tie.spec cents-requires posted-requires refusal-requires answer-requires returns)

@@ -1,0 +1,58 @@
+-- `plans::Posting::refusal`: its table is the key's rows over the delivery's over the stage's, and row 13.
+use borrow.Author.Needs.{needs}
+use Rattle.amounts.proofs.Steps.{back}
+use Rattle.plans.proofs.Tables.{key-above, delivery-above, stage-above, last-row}
+use Rattle.plans.proofs.types.Posting.refusal.Statement.{statement}
+use Rattle.plans.proofs.types.Posting.refusal.Tie as tie
+
+delivery-refusal-requires : tie.Need-delivery-refusal-requires
+delivery-refusal-requires c κs = search needs
+
+refusal-requires : tie.Need-refusal-requires
+refusal-requires c κs = search needs
+
+stage-refusal-requires : tie.Need-stage-refusal-requires
+stage-refusal-requires c κs = search needs
+
+pick-requires : tie.Need-pick-requires
+pick-requires c κs = search needs
+
+or-else-requires : tie.Need-or-else-requires
+or-else-requires c κs = search needs
+
+or-else-requires-2 : tie.Need-or-else-requires-2
+or-else-requires-2 c κs = search needs
+
+or-else-requires-3 : tie.Need-or-else-requires-3
+or-else-requires-3 c κs = search needs
+
+returns : tie.Need-returns
+returns c =
+    rw (
+      key-above,
+      delivery-above,
+      stage-above,
+      last-row,
+      c .or-else3 .ensures,
+      c .before .or-else2 .ensures,
+      c .before .before .or-else .ensures,
+      c .before .before .before .pick .ensures,
+      c .before .before .before .before .before .before .stage-refusal .ensures,
+      c .before .before .before .before .before .before .before .refusal .ensures,
+      c .before .before .before .before .before .before .before .before .before .before .delivery-refusal .ensures,
+      back (c .before .before .before .before .before .before .before .before .before .before .before .before .before .args .self .price) (c .before .before .before .before .before .before .before .before .before .before .before .before .struct-told .given .1 .1 .0 .1),
+      back (c .before .before .before .before .before .before .before .before .before .before .before .before .before .args .self .second) (c .before .before .before .before .before .before .before .before .before .before .before .struct-told2 .given .1 .1 .1 .0 .1),
+    )
+
+pub refusal-spec : {M : Type 1} → statement M
+refusal-spec =
+    tie.close
+    (tie.spec
+    delivery-refusal-requires
+    refusal-requires
+    stage-refusal-requires
+    pick-requires
+    or-else-requires
+    or-else-requires-2
+    or-else-requires-3
+    returns)

@@ -1,0 +1,22 @@
+-- `records::Key::refusal` picks row by row, as `first` does.
+use borrow.Author.Needs.{needs}
+use Rattle.refusals.specs.Refusals.{first}
+use Rattle.records.specs.Records.{keyRows}
+use Rattle.records.proofs.types.Key.refusal.Statement.{statement}
+use Rattle.records.proofs.types.Key.refusal.Tie as tie
+
+pick-requires : tie.Need-pick-requires
+pick-requires c κs = search needs
+
+pick-requires-2 : tie.Need-pick-requires-2
+pick-requires-2 c κs = search needs
+
+pick-requires-3 : tie.Need-pick-requires-3
+pick-requires-3 c κs = search needs
+
+returns : tie.Need-returns
+unfolding first keyRows
+returns c = rw (c .pick3 .ensures, c .before .pick2 .ensures, c .before .before .pick .ensures)
+
+pub refusal-spec : {M : Type 1} → statement M
+refusal-spec = tie.close (tie.spec pick-requires pick-requires-2 pick-requires-3 returns)

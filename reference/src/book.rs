@@ -1,0 +1,731 @@
+//! The book: its records, its eight messages and refusals 1 to 16.
+
+use std::collections::HashMap;
+// In the prelude of edition 2021; named so that the default edition builds.
+use std::convert::TryFrom;
+
+use crate::formulas;
+use crate::limits;
+use crate::refusal::{require, Refusal};
+
+/// "Open makes stage 1."
+pub const BID: u64 = 1;
+/// "Post goes from 1 to 2."
+pub const POSTED: u64 = 2;
+/// "Finish goes from 2 to 3, for kind 3 from 1 to 3."
+pub const FINISHED: u64 = 3;
+/// "Bill goes from 3 to 4."
+pub const BILLED: u64 = 4;
+
+/// "Four kinds: 1 Day-Ahead import, 2 Day-Ahead export, 3 Hour-Ahead export,
+/// 4 Day-Ahead wheel through."
+#[derive(Clone, Copy, Debug, PartialEq, Eq)]
+pub enum Kind {
+    /// 1.
+    Import,
+    /// 2.
+    Export,
+    /// 3.
+    HourAheadExport,
+    /// 4.
+    Wheel,
+}
+
+impl Kind {
+    /// The kind of a number from 1 to 4, and none otherwise.
+    pub fn from_number(number: u64) -> Option<Kind> {
+        match number {
+            1 => Some(Kind::Import),
+            2 => Some(Kind::Export),
+            3 => Some(Kind::HourAheadExport),
+            4 => Some(Kind::Wheel),
+            _ => None,
+        }
+    }
+}
+
+/// "A transaction is known by its key: kind, path (1 to 999, a source and
+/// sink pair) and hour (0 to 999,999)."
+#[derive(Clone, Copy, Debug, Default, PartialEq, Eq, Hash)]
+pub struct Key {
+    /// 1 to 4.
+    pub kind: u64,
+    /// 1 to 999.
+    pub path: u64,
+    /// 0 to 999,999.
+    pub hour: u64,
+}
+
+/// "A record keeps key, stage, bid MWh, differential, exempt mark, schedule,
+/// Day-Ahead price and requirement."
+#[derive(Clone, Copy, Debug, Default, PartialEq, Eq)]
+pub struct Record {
+    /// What the transaction is known by.
+    pub key: Key,
+    /// 1 bid, 2 posted, 3 finished, 4 billed.
+    pub stage: u64,
+    /// The largest MWh of any point, for exports the sum of all.
+    pub bid_mwh: u64,
+    /// Cents per MWh; 0 for kinds 3 and 4.
+    pub differential: u64,
+    /// Whether an import is exempt.
+    pub exempt: bool,
+    /// The posted schedule, MWh.
+    pub schedule: u64,
+    /// An import's posted price, cents per MWh.
+    pub day_ahead_price: i64,
+    /// Signed cents.
+    pub requirement: i64,
+}
+
+impl Record {
+    /// "A free place is zero throughout."
+    pub const FREE: Record = Record {
+        key: Key {
+            kind: 0,
+            path: 0,
+            hour: 0,
+        },
+        stage: 0,
+        bid_mwh: 0,
+        differential: 0,
+        exempt: false,
+        schedule: 0,
+        day_ahead_price: 0,
+        requirement: 0,
+    };
+
+    /// Whether the place holds no record.
+    pub fn is_free(&self) -> bool {
+        *self == Record::FREE
+    }
+
+    /// Whether an occupied place holds what a sound book may hold there.
+    fn is_sound(&self) -> bool {
+        match Kind::from_number(self.key.kind) {
+            Some(kind) => {
+                self.key_is_sound()
+                    && self.stage_is_sound(kind)
+                    && self.bid_mwh_is_sound(kind)
+                    && differential_range(kind).contains(&self.differential)
+                    && self.exempt_mark_is_sound(kind)
+                    && self.schedule_is_sound(kind)
+                    && self.day_ahead_price_is_sound(kind)
+                    && self.requirement_is_sound(kind)
+            }
+            None => false,
+        }
+    }
+
+    /// "Every field is in its range": the key's.
+    fn key_is_sound(&self) -> bool {
+        limits::PATH.contains(&self.key.path) && limits::HOUR.contains(&self.key.hour)
+    }
+
+    /// "Stages are 1 to 4 (never 2 for kind 3)."
+    fn stage_is_sound(&self, kind: Kind) -> bool {
+        (BID..=BILLED).contains(&self.stage)
+            && !(kind == Kind::HourAheadExport && self.stage == POSTED)
+    }
+
+    /// "Bid MWh is at most 10,000 for kinds 1 and 4 and 640,000 otherwise."
+    fn bid_mwh_is_sound(&self, kind: Kind) -> bool {
+        match kind {
+            Kind::Import | Kind::Wheel => limits::LARGEST_BID_MWH.contains(&self.bid_mwh),
+            Kind::Export | Kind::HourAheadExport => limits::SUMMED_BID_MWH.contains(&self.bid_mwh),
+        }
+    }
+
+    /// "The exempt mark stands only on kind 1."
+    fn exempt_mark_is_sound(&self, kind: Kind) -> bool {
+        !self.exempt || kind == Kind::Import
+    }
+
+    /// "Schedule is at most bid MWh and 0 at stage 1 and for kind 3."
+    fn schedule_is_sound(&self, kind: Kind) -> bool {
+        let must_be_0 = self.stage == BID || kind == Kind::HourAheadExport;
+        limits::MWH.contains(&self.schedule)
+            && self.schedule <= self.bid_mwh
+            && (self.schedule == 0 || !must_be_0)
+    }
+
+    /// "The Day-Ahead price is 0 except for kind 1 from stage 2."
+    fn day_ahead_price_is_sound(&self, kind: Kind) -> bool {
+        let may_stand = kind == Kind::Import && self.stage >= POSTED;
+        limits::PRICE.contains(&self.day_ahead_price) && (self.day_ahead_price == 0 || may_stand)
+    }
+
+    /// "The requirement is bounded: stages 1 and 2, 0 to 640,000,000,000
+    /// (kind 4: to 20,000,000,000); stage 3, within 1,300,000,000,000 of
+    /// zero; stage 4, a bill's range."
+    fn requirement_is_sound(&self, kind: Kind) -> bool {
+        let range = match (self.stage, kind) {
+            (BID | POSTED, Kind::Wheel) => limits::EARLY_WHEEL_REQUIREMENT,
+            (BID | POSTED, _) => limits::EARLY_REQUIREMENT,
+            (FINISHED, _) => limits::FINISHED_REQUIREMENT,
+            (_, _) => limits::BILL,
+        };
+        range.contains(&self.requirement)
+    }
+}
+
+/// "Differential: 0 to 1,000,000; 0 for kinds 3 and 4."
+fn differential_range(kind: Kind) -> std::ops::RangeInclusive<u64> {
+    match kind {
+        Kind::Import | Kind::Export => limits::DIFFERENTIAL,
+        Kind::HourAheadExport | Kind::Wheel => limits::NO_DIFFERENTIAL,
+    }
+}
+
+/// "Open (key, points, differential, exempt mark)."
+///
+/// "Points come as two lent lists of equal length, MWh and prices", beside
+/// the message.
+#[derive(Clone, Copy, Debug, PartialEq, Eq)]
+pub struct Opening {
+    /// The transaction to open.
+    pub key: Key,
+    /// Cents per MWh.
+    pub differential: u64,
+    /// "The exempt mark is ignored for kinds 2 to 4."
+    pub exempt: bool,
+}
+
+/// "Revise (the same, replacing the group)."
+#[derive(Clone, Copy, Debug, PartialEq, Eq)]
+pub struct Revision {
+    /// The transaction to revise.
+    pub key: Key,
+    /// Cents per MWh.
+    pub differential: u64,
+    /// "The exempt mark is ignored for kinds 2 to 4."
+    pub exempt: bool,
+}
+
+/// "Withdraw."
+#[derive(Clone, Copy, Debug, PartialEq, Eq)]
+pub struct Withdrawal {
+    /// The transaction to withdraw.
+    pub key: Key,
+}
+
+/// "Post (schedule, two prices)."
+#[derive(Clone, Copy, Debug, PartialEq, Eq)]
+pub struct Posting {
+    /// The transaction posted.
+    pub key: Key,
+    /// MWh.
+    pub schedule: u64,
+    /// The Day-Ahead price, for kind 4 that at withdrawal.
+    pub first_price: i64,
+    /// For kind 4 the Day-Ahead price at injection, otherwise 0.
+    pub second_price: i64,
+}
+
+/// "Finish (actual MWh, two prices)."
+#[derive(Clone, Copy, Debug, PartialEq, Eq)]
+pub struct Finish {
+    /// The transaction finished.
+    pub key: Key,
+    /// MWh.
+    pub actual: u64,
+    /// The real-time price, for kind 4 that at withdrawal.
+    pub first_price: i64,
+    /// For kind 4 the real-time price at injection, otherwise 0.
+    pub second_price: i64,
+}
+
+/// "Bill (amount)."
+#[derive(Clone, Copy, Debug, PartialEq, Eq)]
+pub struct Bill {
+    /// The transaction billed.
+    pub key: Key,
+    /// Signed cents.
+    pub amount: i64,
+}
+
+/// "Pay."
+#[derive(Clone, Copy, Debug, PartialEq, Eq)]
+pub struct Payment {
+    /// The transaction paid.
+    pub key: Key,
+}
+
+/// "Support (amount)."
+#[derive(Clone, Copy, Debug, PartialEq, Eq)]
+pub struct Support {
+    /// Cents.
+    pub amount: i64,
+}
+
+/// "Each message is one case with its own set of values."
+#[derive(Clone, Copy, Debug, PartialEq, Eq)]
+pub enum Message {
+    /// Opens a transaction.
+    Open(Opening),
+    /// Replaces the group of an open transaction.
+    Revise(Revision),
+    /// Takes an open transaction back.
+    Withdraw(Withdrawal),
+    /// Brings the Day-Ahead schedule and prices.
+    Post(Posting),
+    /// Brings the actual MWh and the real-time prices.
+    Finish(Finish),
+    /// Brings the bill.
+    Bill(Bill),
+    /// Settles the bill.
+    Pay(Payment),
+    /// Sets the support.
+    Support(Support),
+}
+
+/// What a message is answered.
+///
+/// "Acceptance answers the key's requirement (0 after withdraw, pay and
+/// support), held and net owed of the next book. A refusal answers its
+/// number, requirement 0, the held and net owed of the unchanged book (both 0
+/// for 1)."
+#[derive(Clone, Copy, Debug, PartialEq, Eq)]
+pub struct Answer {
+    /// Why the message is turned away, and none when it is accepted.
+    pub refusal: Option<Refusal>,
+    /// The key's requirement.
+    pub requirement: i64,
+    /// The sum of all requirements.
+    pub held: i64,
+    /// The sum of the requirements at stage 4.
+    pub net_owed: i64,
+}
+
+impl Answer {
+    /// The refusal's number, and 0 for an acceptance.
+    pub fn number(&self) -> u64 {
+        self.refusal.map_or(0, Refusal::number)
+    }
+}
+
+/// Where the key of each record stands.
+type Directory = HashMap<Key, usize>;
+
+/// "One book serves one customer. It holds up to 256 open transactions."
+///
+/// Both fields are open to anyone, so a book may be unsound; such a book
+/// answers refusal 1 to every message.
+#[derive(Clone, Debug, PartialEq, Eq)]
+pub struct Book {
+    /// The places, free ones among them.
+    pub records: [Record; limits::PLACES],
+    /// Cents.
+    pub support: i64,
+}
+
+impl Book {
+    /// A book without records.
+    fn empty(support: i64) -> Book {
+        Book {
+            records: [Record::FREE; limits::PLACES],
+            support,
+        }
+    }
+
+    /// "A fresh book is empty, with the support given; an out-of-range
+    /// support answers refusal 9 and an empty book of support 0."
+    pub fn fresh(support: i64) -> (Book, Answer) {
+        let (book, outcome) = match check_support(support) {
+            Ok(()) => (Book::empty(support), Ok(0)),
+            Err(refusal) => (Book::empty(0), Err(refusal)),
+        };
+        let answer = book.answer(outcome);
+        (book, answer)
+    }
+
+    /// "Held is the sum of all requirements."
+    pub fn held(&self) -> i128 {
+        self.records
+            .iter()
+            .map(|record| i128::from(record.requirement))
+            .sum()
+    }
+
+    /// "Net owed is the sum over stage 4."
+    pub fn net_owed(&self) -> i128 {
+        self.records
+            .iter()
+            .filter(|record| record.stage == BILLED)
+            .map(|record| i128::from(record.requirement))
+            .sum()
+    }
+
+    /// "The book is suspended exactly when 2 x net owed is at least the
+    /// support."
+    pub fn is_suspended(&self) -> bool {
+        2 * self.net_owed() >= i128::from(self.support)
+    }
+
+    /// "A book is sound when support is in range, keys are distinct, free
+    /// places are zero, every field is in its range" and so on.
+    pub fn is_sound(&self) -> bool {
+        self.sound_directory().is_some()
+    }
+
+    /// The directory of a sound book, and none of an unsound one.
+    fn sound_directory(&self) -> Option<Directory> {
+        if limits::SUPPORT.contains(&self.support) && self.places_are_sound() {
+            self.directory()
+        } else {
+            None
+        }
+    }
+
+    /// Every place is free, and so zero throughout, or holds a sound record.
+    fn places_are_sound(&self) -> bool {
+        self.records
+            .iter()
+            .all(|record| record.is_free() || record.is_sound())
+    }
+
+    /// Where each key stands, and none when two records share a key.
+    fn directory(&self) -> Option<Directory> {
+        let mut directory = Directory::with_capacity(limits::PLACES);
+        for (place, record) in self.records.iter().enumerate() {
+            if !record.is_free() && directory.insert(record.key, place).is_some() {
+                return None;
+            }
+        }
+        Some(directory)
+    }
+
+    /// Answers a message and leaves the next book in place of this one. The
+    /// two lists are the points of open and revise; other messages pass over
+    /// them. "Lent lists are only read."
+    pub fn apply(&mut self, message: Message, mwh: &[u64], prices: &[i64]) -> Answer {
+        let Some(directory) = self.sound_directory() else {
+            return NOT_SOUND;
+        };
+        let curve = Curve { mwh, prices };
+        let outcome = match message {
+            Message::Open(opening) => self.open(&directory, opening, curve),
+            Message::Revise(revision) => self.revise(&directory, revision, curve),
+            Message::Withdraw(withdrawal) => self.withdraw(&directory, withdrawal),
+            Message::Post(posting) => self.post(&directory, posting),
+            Message::Finish(finish) => self.finish(&directory, finish),
+            Message::Bill(bill) => self.bill(&directory, bill),
+            Message::Pay(payment) => self.pay(&directory, payment),
+            Message::Support(support) => self.set_support(support),
+        };
+        self.answer(outcome)
+    }
+
+    /// The answer with this book's held and net owed.
+    fn answer(&self, outcome: Result<i64, Refusal>) -> Answer {
+        Answer {
+            refusal: outcome.err(),
+            requirement: outcome.unwrap_or(0),
+            held: cents(self.held()),
+            net_owed: cents(self.net_owed()),
+        }
+    }
+
+    /// Open: refusals 2 to 8, 10, 14, 15 and 16.
+    fn open(
+        &mut self,
+        directory: &Directory,
+        opening: Opening,
+        curve: Curve,
+    ) -> Result<i64, Refusal> {
+        let key = opening.key;
+        let group = Group::read(key, curve, opening.differential, opening.exempt)?;
+        require(!directory.contains_key(&key), Refusal::KeyAlreadyOpen)?;
+        require(!self.is_suspended(), Refusal::Suspended)?;
+        let place = self.lowest_free_place().ok_or(Refusal::BookFull)?;
+        let held_afterwards = self.held() + i128::from(group.requirement);
+        require(
+            held_afterwards <= i128::from(self.support),
+            Refusal::AboveSupport,
+        )?;
+        self.records[place] = group.record(key);
+        Ok(group.requirement)
+    }
+
+    /// "A new record takes the lowest free place."
+    fn lowest_free_place(&self) -> Option<usize> {
+        self.records.iter().position(Record::is_free)
+    }
+
+    /// Revise: refusals 2 to 8, 11, 12, 14 and 16.
+    fn revise(
+        &mut self,
+        directory: &Directory,
+        revision: Revision,
+        curve: Curve,
+    ) -> Result<i64, Refusal> {
+        let key = revision.key;
+        let group = Group::read(key, curve, revision.differential, revision.exempt)?;
+        let place = self.place_at_stage(directory, key, BID)?;
+        require(!self.is_suspended(), Refusal::Suspended)?;
+        let old = self.records[place].requirement;
+        let new = group.requirement;
+        let held_afterwards = self.held() - i128::from(old) + i128::from(new);
+        let above_support = held_afterwards > i128::from(self.support);
+        require(!(new > old && above_support), Refusal::AboveSupport)?;
+        self.records[place] = group.record(key);
+        Ok(new)
+    }
+
+    /// Withdraw: refusals 2, 3, 4, 11 and 12. "Withdraw frees it too."
+    fn withdraw(&mut self, directory: &Directory, withdrawal: Withdrawal) -> Result<i64, Refusal> {
+        check_key(withdrawal.key)?;
+        let place = self.place_at_stage(directory, withdrawal.key, BID)?;
+        self.records[place] = Record::FREE;
+        Ok(0)
+    }
+
+    /// Post: refusals 2, 3, 4, 6, 7, 11, 12 and 13. "Post keeps the schedule
+    /// and, for kind 1, the first price."
+    fn post(&mut self, directory: &Directory, posting: Posting) -> Result<i64, Refusal> {
+        let kind = check_key(posting.key)?;
+        require(limits::MWH.contains(&posting.schedule), Refusal::Quantity)?;
+        check_two_prices(kind, posting.first_price, posting.second_price)?;
+        let place = self.place_at_stage(directory, posting.key, BID)?;
+        let record = &mut self.records[place];
+        let requirement = cents(posted_requirement(kind, record, &posting)?);
+        require(
+            posting.schedule <= record.bid_mwh,
+            Refusal::ScheduleAboveBid,
+        )?;
+        record.stage = POSTED;
+        record.schedule = posting.schedule;
+        if kind == Kind::Import {
+            record.day_ahead_price = posting.first_price;
+        }
+        record.requirement = requirement;
+        Ok(requirement)
+    }
+
+    /// Finish: refusals 2, 3, 4, 6, 7, 11 and 12. "Actual and real-time
+    /// values aren't kept."
+    fn finish(&mut self, directory: &Directory, finish: Finish) -> Result<i64, Refusal> {
+        let kind = check_key(finish.key)?;
+        require(limits::MWH.contains(&finish.actual), Refusal::Quantity)?;
+        check_two_prices(kind, finish.first_price, finish.second_price)?;
+        let place = self.place_at_stage(directory, finish.key, stage_before_finish(kind))?;
+        let record = &mut self.records[place];
+        record.requirement = cents(finished_requirement(kind, record, &finish));
+        record.stage = FINISHED;
+        Ok(record.requirement)
+    }
+
+    /// Bill: refusals 2, 3, 4, 9, 11 and 12. "Billed, every kind: the bill,
+    /// signed."
+    fn bill(&mut self, directory: &Directory, bill: Bill) -> Result<i64, Refusal> {
+        check_key(bill.key)?;
+        require(limits::BILL.contains(&bill.amount), Refusal::Amount)?;
+        let place = self.place_at_stage(directory, bill.key, FINISHED)?;
+        let record = &mut self.records[place];
+        record.stage = BILLED;
+        record.requirement = bill.amount;
+        Ok(record.requirement)
+    }
+
+    /// Pay: refusals 2, 3, 4, 11 and 12. "Pay needs 4 and frees the place."
+    fn pay(&mut self, directory: &Directory, payment: Payment) -> Result<i64, Refusal> {
+        check_key(payment.key)?;
+        let place = self.place_at_stage(directory, payment.key, BILLED)?;
+        self.records[place] = Record::FREE;
+        Ok(0)
+    }
+
+    /// Support: refusal 9.
+    fn set_support(&mut self, support: Support) -> Result<i64, Refusal> {
+        check_support(support.amount)?;
+        self.support = support.amount;
+        Ok(0)
+    }
+
+    /// The place of an open key at the stage that a message needs: refusal 11
+    /// when the key is not open, 12 when the stage is another.
+    fn place_at_stage(
+        &self,
+        directory: &Directory,
+        key: Key,
+        stage: u64,
+    ) -> Result<usize, Refusal> {
+        let &place = directory.get(&key).ok_or(Refusal::KeyNotOpen)?;
+        require(self.records[place].stage == stage, Refusal::WrongStage)?;
+        Ok(place)
+    }
+}
+
+/// The answer to any message from a book that is not sound.
+const NOT_SOUND: Answer = Answer {
+    refusal: Some(Refusal::BookNotSound),
+    requirement: 0,
+    held: 0,
+    net_owed: 0,
+};
+
+/// An amount of a sound book, which lies far within the type.
+fn cents(amount: i128) -> i64 {
+    i64::try_from(amount).expect("amounts of a sound book fit")
+}
+
+/// A bid MWh of points in range, which lies far within the type.
+fn whole_mwh(mwh: i128) -> u64 {
+    u64::try_from(mwh).expect("MWh of points in range fit")
+}
+
+/// Refusals 2, 3 and 4, in this order.
+fn check_key(key: Key) -> Result<Kind, Refusal> {
+    let kind = Kind::from_number(key.kind).ok_or(Refusal::Kind)?;
+    require(limits::PATH.contains(&key.path), Refusal::Path)?;
+    require(limits::HOUR.contains(&key.hour), Refusal::Hour)?;
+    Ok(kind)
+}
+
+/// Refusal 7 of post and finish: "Kinds 1 to 3 use one price in post and
+/// finish, and their second must be 0."
+fn check_two_prices(kind: Kind, first: i64, second: i64) -> Result<(), Refusal> {
+    let in_range = limits::PRICE.contains(&first) && limits::PRICE.contains(&second);
+    let second_fits = kind == Kind::Wheel || second == 0;
+    require(in_range && second_fits, Refusal::Price)
+}
+
+/// Refusal 9 of a support.
+fn check_support(amount: i64) -> Result<(), Refusal> {
+    require(limits::SUPPORT.contains(&amount), Refusal::Amount)
+}
+
+/// "Points come as two lent lists of equal length, MWh and prices."
+#[derive(Clone, Copy)]
+struct Curve<'a> {
+    mwh: &'a [u64],
+    prices: &'a [i64],
+}
+
+impl Curve<'_> {
+    /// Refusals 5, 6 and 7, in this order.
+    fn check(&self) -> Result<(), Refusal> {
+        let counted = limits::POINTS.contains(&self.mwh.len());
+        let equal = self.mwh.len() == self.prices.len();
+        require(counted && equal, Refusal::Points)?;
+        let mwh_in_range = self.mwh.iter().all(|mwh| limits::POINT_MWH.contains(mwh));
+        require(mwh_in_range, Refusal::Quantity)?;
+        let prices_in_range = self
+            .prices
+            .iter()
+            .all(|price| limits::PRICE.contains(price));
+        require(prices_in_range, Refusal::Price)
+    }
+}
+
+/// "All bids of one key are one group": what open and revise put on record.
+struct Group {
+    bid_mwh: u64,
+    differential: u64,
+    exempt: bool,
+    requirement: i64,
+}
+
+impl Group {
+    /// Refusals 2 to 8, in this order, and then the requirement at stage 1.
+    fn read(key: Key, curve: Curve, differential: u64, exempt: bool) -> Result<Group, Refusal> {
+        let kind = check_key(key)?;
+        curve.check()?;
+        require(
+            differential_range(kind).contains(&differential),
+            Refusal::Differential,
+        )?;
+        // "The exempt mark is ignored for kinds 2 to 4."
+        let exempt = exempt && kind == Kind::Import;
+        Ok(Group {
+            bid_mwh: whole_mwh(bid_mwh(kind, curve)),
+            differential,
+            exempt,
+            requirement: cents(bid_requirement(kind, curve, differential, exempt)),
+        })
+    }
+
+    /// The group's record at stage 1.
+    fn record(&self, key: Key) -> Record {
+        Record {
+            key,
+            stage: BID,
+            bid_mwh: self.bid_mwh,
+            differential: self.differential,
+            exempt: self.exempt,
+            requirement: self.requirement,
+            ..Record::FREE
+        }
+    }
+}
+
+/// The largest MWh of any point, for exports the sum of all.
+fn bid_mwh(kind: Kind, curve: Curve) -> i128 {
+    match kind {
+        Kind::Import | Kind::Wheel => formulas::largest_mwh(curve.mwh),
+        Kind::Export | Kind::HourAheadExport => formulas::sum_of_mwh(curve.mwh),
+    }
+}
+
+/// The requirement at stage 1.
+fn bid_requirement(kind: Kind, curve: Curve, differential: u64, exempt: bool) -> i128 {
+    let Curve { mwh, prices } = curve;
+    let differential = i128::from(differential);
+    match kind {
+        Kind::Import => formulas::import_bid(bid_mwh(kind, curve), differential, exempt),
+        Kind::Export => formulas::export_bid(mwh, prices, differential),
+        Kind::HourAheadExport => formulas::hour_ahead_export_bid(mwh, prices),
+        Kind::Wheel => formulas::wheel_bid(mwh, prices),
+    }
+}
+
+/// The requirement at stage 2. Post "is not for kind 3 (refusal 12)".
+fn posted_requirement(kind: Kind, record: &Record, posting: &Posting) -> Result<i128, Refusal> {
+    let schedule = i128::from(posting.schedule);
+    let differential = i128::from(record.differential);
+    let first = i128::from(posting.first_price);
+    let second = i128::from(posting.second_price);
+    match kind {
+        Kind::Import => Ok(formulas::import_posted(
+            schedule,
+            differential,
+            record.exempt,
+        )),
+        Kind::Export => Ok(formulas::export_posted(schedule, first, differential)),
+        Kind::HourAheadExport => Err(Refusal::WrongStage),
+        Kind::Wheel => {
+            let difference = formulas::difference(first, second);
+            Ok(formulas::wheel_posted(schedule, difference))
+        }
+    }
+}
+
+/// "Finish goes from 2 to 3, for kind 3 from 1 to 3."
+fn stage_before_finish(kind: Kind) -> u64 {
+    match kind {
+        Kind::HourAheadExport => BID,
+        Kind::Import | Kind::Export | Kind::Wheel => POSTED,
+    }
+}
+
+/// The requirement at stage 3. "The posted amount, here and for wheels, is
+/// the requirement that the record holds at stage 2."
+fn finished_requirement(kind: Kind, record: &Record, finish: &Finish) -> i128 {
+    let posted = i128::from(record.requirement);
+    let schedule = i128::from(record.schedule);
+    let day_ahead = i128::from(record.day_ahead_price);
+    let actual = i128::from(finish.actual);
+    let first = i128::from(finish.first_price);
+    let second = i128::from(finish.second_price);
+    match kind {
+        Kind::Import => {
+            formulas::import_finished(schedule, actual, day_ahead, first, record.exempt)
+        }
+        Kind::Export => formulas::export_finished(posted, schedule, actual, first),
+        Kind::HourAheadExport => formulas::hour_ahead_export_finished(actual, first),
+        Kind::Wheel => {
+            let difference = formulas::difference(first, second);
+            formulas::wheel_finished(posted, schedule, actual, difference)
+        }
+    }
+}

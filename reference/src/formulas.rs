@@ -1,0 +1,275 @@
+//! "Requirement at each stage", formula by formula.
+//!
+//! MWh, prices, differentials and amounts come as `i128`, so that no product
+//! of values in their ranges comes near the end of the type. A curve's two
+//! lists are of equal length here.
+
+use std::cmp::max;
+
+/// A curve's points, one by one, as MWh and price.
+fn points<'a>(mwh: &'a [u64], prices: &'a [i64]) -> impl Iterator<Item = (i128, i128)> + 'a {
+    let mwh = mwh.iter().map(|&mwh| i128::from(mwh));
+    let prices = prices.iter().map(|&price| i128::from(price));
+    mwh.zip(prices)
+}
+
+/// Imports and wheels: "bid MWh is the largest MWh of any point."
+pub fn largest_mwh(mwh: &[u64]) -> i128 {
+    mwh.iter().map(|&mwh| i128::from(mwh)).max().unwrap_or(0)
+}
+
+/// Exports: "Points add up: bid MWh is their sum."
+pub fn sum_of_mwh(mwh: &[u64]) -> i128 {
+    mwh.iter().map(|&mwh| i128::from(mwh)).sum()
+}
+
+/// Import, bid: "bid MWh x differential"; 0 when exempt.
+pub fn import_bid(bid_mwh: i128, differential: i128, exempt: bool) -> i128 {
+    unless_exempt(exempt, bid_mwh * differential)
+}
+
+/// Import, posted: "schedule x differential"; 0 when exempt.
+pub fn import_posted(schedule: i128, differential: i128, exempt: bool) -> i128 {
+    unless_exempt(exempt, schedule * differential)
+}
+
+/// Import, finished: "Max(balancing - schedule x Day-Ahead price, 0), where
+/// balancing is Max((schedule - actual) x real-time price, 0)"; 0 when exempt.
+pub fn import_finished(
+    schedule: i128,
+    actual: i128,
+    day_ahead_price: i128,
+    real_time_price: i128,
+    exempt: bool,
+) -> i128 {
+    let balancing = max((schedule - actual) * real_time_price, 0);
+    unless_exempt(exempt, max(balancing - schedule * day_ahead_price, 0))
+}
+
+/// "An exempt import has 0 at these three stages."
+fn unless_exempt(exempt: bool, requirement: i128) -> i128 {
+    if exempt {
+        0
+    } else {
+        requirement
+    }
+}
+
+/// "Price exposure is the largest, over every price p from 0 up, of
+/// p x (MWh of all points priced at p or above); it is 0 when no point is
+/// priced above 0."
+///
+/// Between two neighbouring bid prices the MWh stay the same and the product
+/// grows with p; above the highest bid price there are no MWh. So the largest
+/// is found at a bid price, or is the 0 of price 0.
+pub fn price_exposure(mwh: &[u64], prices: &[i64]) -> i128 {
+    prices
+        .iter()
+        .map(|&price| i128::from(price))
+        .filter(|&price| price >= 0)
+        .map(|price| exposure_at(price, mwh, prices))
+        .fold(0, max)
+}
+
+/// "p x (MWh of all points priced at p or above)."
+fn exposure_at(p: i128, mwh: &[u64], prices: &[i64]) -> i128 {
+    let mwh_at_p_or_above: i128 = points(mwh, prices)
+        .filter(|&(_, price)| price >= p)
+        .map(|(mwh, _)| mwh)
+        .sum();
+    p * mwh_at_p_or_above
+}
+
+/// Export, bid, kind 2: "Max(price exposure, bid MWh x differential)."
+pub fn export_bid(mwh: &[u64], prices: &[i64], differential: i128) -> i128 {
+    max(price_exposure(mwh, prices), sum_of_mwh(mwh) * differential)
+}
+
+/// Export, bid, kind 3: "price exposure."
+pub fn hour_ahead_export_bid(mwh: &[u64], prices: &[i64]) -> i128 {
+    price_exposure(mwh, prices)
+}
+
+/// Export, posted, kind 2: "schedule x Max(Day-Ahead price, differential)."
+pub fn export_posted(schedule: i128, day_ahead_price: i128, differential: i128) -> i128 {
+    schedule * max(day_ahead_price, differential)
+}
+
+/// Export, finished, kind 2: "the posted amount
+/// - Max((schedule - actual) x real-time price, 0)
+/// + Max((actual - schedule) x real-time price, 0)."
+///
+/// "A finished kind 2 may be below zero; no floor is named."
+pub fn export_finished(posted: i128, schedule: i128, actual: i128, real_time_price: i128) -> i128 {
+    posted - max((schedule - actual) * real_time_price, 0)
+        + max((actual - schedule) * real_time_price, 0)
+}
+
+/// Export, finished, kind 3: "Max(actual x real-time price, 0)."
+pub fn hour_ahead_export_finished(actual: i128, real_time_price: i128) -> i128 {
+    max(actual * real_time_price, 0)
+}
+
+/// Wheel, bid: "the largest of -(MWh x price) over the points, not below 0."
+pub fn wheel_bid(mwh: &[u64], prices: &[i64]) -> i128 {
+    points(mwh, prices)
+        .map(|(mwh, price)| -(mwh * price))
+        .fold(0, max)
+}
+
+/// "Prices are at withdrawal, then at injection; their difference is
+/// withdrawal less injection."
+pub fn difference(withdrawal: i128, injection: i128) -> i128 {
+    withdrawal - injection
+}
+
+/// Wheel, posted: "Max(schedule x difference, 0)."
+pub fn wheel_posted(schedule: i128, difference: i128) -> i128 {
+    max(schedule * difference, 0)
+}
+
+/// Wheel, finished: "posted - Max(schedule - actual, 0) x difference
+/// + Max(Max(actual - schedule, 0) x difference, 0)."
+pub fn wheel_finished(posted: i128, schedule: i128, actual: i128, difference: i128) -> i128 {
+    posted - max(schedule - actual, 0) * difference + max(max(actual - schedule, 0) * difference, 0)
+}
+
+#[cfg(test)]
+mod tests {
+    use super::*;
+
+    const EXPORT_MWH: [u64; 4] = [100, 90, 80, 70];
+    const EXPORT_PRICES: [i64; 4] = [1000, 1500, 3000, 4500];
+    const WHEEL_MWH: [u64; 3] = [30, 40, 50];
+    const WHEEL_PRICES: [i64; 3] = [-500, -400, 200];
+
+    #[test]
+    fn worked_imports() {
+        let bid_mwh = largest_mwh(&[27, 61, 100]);
+        assert_eq!(import_bid(bid_mwh, 6000, false), 600_000); // W1
+        assert_eq!(import_posted(50, 6000, false), 300_000); // W2
+        assert_eq!(import_finished(50, 10, 4000, 6000, false), 40_000); // W3
+        assert_eq!(import_finished(50, 60, -4000, 6000, false), 200_000); // W14
+    }
+
+    #[test]
+    fn worked_exports() {
+        assert_eq!(export_bid(&EXPORT_MWH, &EXPORT_PRICES, 1200), 450_000); // W4
+        assert_eq!(export_bid(&EXPORT_MWH, &EXPORT_PRICES, 1400), 476_000); // W5
+        assert_eq!(export_posted(100, 5000, 4000), 500_000); // W6
+        assert_eq!(export_finished(500_000, 100, 90, 4000), 460_000); // W7
+        assert_eq!(export_finished(500_000, 100, 120, 4000), 580_000); // W8
+    }
+
+    #[test]
+    fn worked_wheels() {
+        assert_eq!(wheel_bid(&WHEEL_MWH, &WHEEL_PRICES), 16_000); // W9
+        assert_eq!(wheel_posted(50, 400), 20_000); // W10
+        assert_eq!(wheel_finished(20_000, 50, 40, 500), 15_000); // W11
+        assert_eq!(wheel_finished(20_000, 50, 70, 500), 30_000); // W12
+        assert_eq!(wheel_bid(&[50], &[200]), 0); // W13
+    }
+
+    #[test]
+    fn an_exempt_import_has_0_at_three_stages() {
+        assert_eq!(import_bid(100, 6000, true), 0);
+        assert_eq!(import_posted(50, 6000, true), 0);
+        assert_eq!(import_finished(50, 10, 4000, 6000, true), 0);
+    }
+
+    #[test]
+    fn import_balancing_has_its_own_floor() {
+        // Without it (50 - 60) x 6000 would take 60,000 from 200,000.
+        assert_eq!(import_finished(50, 60, -4000, 6000, false), 200_000);
+        // A negative real-time price turns the signs round.
+        assert_eq!(import_finished(50, 60, 1000, -6000, false), 10_000);
+        assert_eq!(import_finished(50, 40, 1000, -6000, false), 0);
+    }
+
+    #[test]
+    fn a_finished_export_may_be_below_zero() {
+        assert_eq!(export_finished(0, 10, 0, 500), -5000);
+        assert_eq!(export_finished(1000, 10, 20, -500), -4000);
+        assert_eq!(export_finished(1000, 10, 0, -500), 6000);
+    }
+
+    #[test]
+    fn an_hour_ahead_export_finishes_not_below_0() {
+        assert_eq!(hour_ahead_export_finished(7, 300), 2100);
+        assert_eq!(hour_ahead_export_finished(7, -300), 0);
+        assert_eq!(hour_ahead_export_finished(0, 300), 0);
+    }
+
+    #[test]
+    fn a_posted_export_takes_the_larger_of_price_and_differential() {
+        assert_eq!(export_posted(100, 3999, 4000), 400_000);
+        assert_eq!(export_posted(100, 4001, 4000), 400_100);
+        assert_eq!(export_posted(100, -5000, 0), 0);
+    }
+
+    #[test]
+    fn a_wheel_reads_withdrawal_less_injection() {
+        assert_eq!(difference(300, -100), 400);
+        assert_eq!(difference(-100, 300), -400);
+        assert_eq!(wheel_posted(50, difference(-100, 300)), 0);
+    }
+
+    #[test]
+    fn a_wheel_short_of_schedule_has_no_floor_under_its_reduction() {
+        // 10 MWh short at a difference of -500 adds 5,000.
+        assert_eq!(wheel_finished(20_000, 50, 40, -500), 25_000);
+        // 50 MWh short at 500 takes 25,000 of 20,000.
+        assert_eq!(wheel_finished(20_000, 50, 0, 500), -5_000);
+        // 20 MWh over at a difference of -500 adds nothing.
+        assert_eq!(wheel_finished(20_000, 50, 70, -500), 20_000);
+        assert_eq!(wheel_finished(20_000, 50, 50, 500), 20_000);
+    }
+
+    #[test]
+    fn exposure_is_0_when_no_point_is_priced_above_0() {
+        assert_eq!(price_exposure(&[10_000, 5, 7], &[0, -1, -1_000_000]), 0);
+        assert_eq!(price_exposure(&[10_000], &[1]), 10_000);
+        assert_eq!(price_exposure(&[0], &[1_000_000]), 0);
+        assert_eq!(hour_ahead_export_bid(&EXPORT_MWH, &EXPORT_PRICES), 450_000);
+    }
+
+    /// The definition itself, price by price.
+    fn exposure_over_every_price(mwh: &[u64], prices: &[i64]) -> i128 {
+        let end = prices.iter().copied().fold(0, max) + 3;
+        (0..=end)
+            .map(|p| exposure_at(i128::from(p), mwh, prices))
+            .fold(0, max)
+    }
+
+    #[test]
+    fn exposure_is_the_largest_over_every_price() {
+        let mut seed = 20_120_630_u64;
+        let mut next = |below: u64| {
+            seed = seed
+                .wrapping_mul(6_364_136_223_846_793_005)
+                .wrapping_add(1_442_695_040_888_963_407);
+            (seed >> 33) % below
+        };
+        for _ in 0..4000 {
+            let count = 1 + next(9);
+            let mwh: Vec<u64> = (0..count).map(|_| next(25)).collect();
+            let prices: Vec<i64> = (0..count).map(|_| next(90) as i64 - 20).collect();
+            assert_eq!(
+                price_exposure(&mwh, &prices),
+                exposure_over_every_price(&mwh, &prices),
+                "{mwh:?} at {prices:?}"
+            );
+        }
+        assert_eq!(
+            exposure_over_every_price(&EXPORT_MWH, &EXPORT_PRICES),
+            450_000
+        );
+    }
+
+    #[test]
+    fn exposure_does_not_hang_on_the_order_of_points() {
+        let mwh = [70, 100, 80, 90];
+        let prices = [4500, 1000, 3000, 1500];
+        assert_eq!(price_exposure(&mwh, &prices), 450_000);
+    }
+}

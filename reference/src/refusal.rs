@@ -1,0 +1,62 @@
+//! "Turned away, and why": the eighteen refusals and their numbers.
+
+/// Why a message, an import test or a lookup is turned away.
+///
+/// "Checked in this order; the first that applies is given, and only those
+/// that concern the message."
+#[derive(Clone, Copy, Debug, PartialEq, Eq, PartialOrd, Ord, Hash)]
+pub enum Refusal {
+    /// 1: "book not sound".
+    BookNotSound = 1,
+    /// 2: "kind not 1 to 4".
+    Kind = 2,
+    /// 3: "path out of range".
+    Path = 3,
+    /// 4: "hour out of range".
+    Hour = 4,
+    /// 5: "point count out of range or lists unequal".
+    Points = 5,
+    /// 6: "a quantity out of range".
+    Quantity = 6,
+    /// 7: "a price out of range or not 0 where it must be".
+    Price = 7,
+    /// 8: "differential out of range".
+    Differential = 8,
+    /// 9: "amount out of range".
+    Amount = 9,
+    /// 10: "open: key already open".
+    KeyAlreadyOpen = 10,
+    /// 11: "other keyed messages: key not open".
+    KeyNotOpen = 11,
+    /// 12: "wrong stage".
+    WrongStage = 12,
+    /// 13: "schedule above bid MWh".
+    ScheduleAboveBid = 13,
+    /// 14: "open or revise while suspended".
+    Suspended = 14,
+    /// 15: "open with 256 records".
+    BookFull = 15,
+    /// 16: "open: held + requirement above support; revise: the new
+    /// requirement is above the old and held afterwards is above support".
+    AboveSupport = 16,
+    /// 17: "import test: windows contradict".
+    WindowsContradict = 17,
+    /// 18: "lookup: bus, month, day type or hour out of range".
+    Lookup = 18,
+}
+
+impl Refusal {
+    /// The refusal's number in the table.
+    pub fn number(self) -> u64 {
+        self as u64
+    }
+}
+
+/// Turns a condition that must hold into the refusal given when it doesn't.
+pub(crate) fn require(holds: bool, refusal: Refusal) -> Result<(), Refusal> {
+    if holds {
+        Ok(())
+    } else {
+        Err(refusal)
+    }
+}

@@ -1,0 +1,221 @@
+//! Short ways to say a message and to expect an answer.
+
+use reference::book::{Bill, Finish, Opening, Payment, Posting, Revision, Support, Withdrawal};
+use reference::{Answer, Book, Key, Message, Record, Refusal};
+
+pub const IMPORT: u64 = 1;
+pub const EXPORT: u64 = 2;
+pub const HOUR_AHEAD_EXPORT: u64 = 3;
+pub const WHEEL: u64 = 4;
+
+pub const MOST_SUPPORT: i64 = 1_000_000_000_000_000;
+
+/// One point of 10 MWh at 1,000 cents.
+pub const MWH: &[u64] = &[10];
+pub const PRICES: &[i64] = &[1000];
+
+/// Every refusal in the order of the table.
+pub const ALL: [Refusal; 18] = [
+    Refusal::BookNotSound,
+    Refusal::Kind,
+    Refusal::Path,
+    Refusal::Hour,
+    Refusal::Points,
+    Refusal::Quantity,
+    Refusal::Price,
+    Refusal::Differential,
+    Refusal::Amount,
+    Refusal::KeyAlreadyOpen,
+    Refusal::KeyNotOpen,
+    Refusal::WrongStage,
+    Refusal::ScheduleAboveBid,
+    Refusal::Suspended,
+    Refusal::BookFull,
+    Refusal::AboveSupport,
+    Refusal::WindowsContradict,
+    Refusal::Lookup,
+];
+
+pub fn fresh(support: i64) -> Book {
+    let (book, answer) = Book::fresh(support);
+    assert_eq!(answer, accepted(0, 0, 0));
+    book
+}
+
+/// A fresh book of the largest support.
+pub fn wide() -> Book {
+    fresh(MOST_SUPPORT)
+}
+
+pub fn key(kind: u64) -> Key {
+    Key {
+        kind,
+        path: 7,
+        hour: 100,
+    }
+}
+
+/// Another key for each number.
+pub fn key_no(kind: u64, number: u64) -> Key {
+    Key {
+        kind,
+        path: 8,
+        hour: number,
+    }
+}
+
+pub fn open(key: Key, differential: u64, exempt: bool) -> Message {
+    Message::Open(Opening {
+        key,
+        differential,
+        exempt,
+    })
+}
+
+pub fn revise(key: Key, differential: u64, exempt: bool) -> Message {
+    Message::Revise(Revision {
+        key,
+        differential,
+        exempt,
+    })
+}
+
+pub fn withdraw(key: Key) -> Message {
+    Message::Withdraw(Withdrawal { key })
+}
+
+pub fn post(key: Key, schedule: u64, first_price: i64, second_price: i64) -> Message {
+    Message::Post(Posting {
+        key,
+        schedule,
+        first_price,
+        second_price,
+    })
+}
+
+pub fn finish(key: Key, actual: u64, first_price: i64, second_price: i64) -> Message {
+    Message::Finish(Finish {
+        key,
+        actual,
+        first_price,
+        second_price,
+    })
+}
+
+pub fn bill(key: Key, amount: i64) -> Message {
+    Message::Bill(Bill { key, amount })
+}
+
+pub fn pay(key: Key) -> Message {
+    Message::Pay(Payment { key })
+}
+
+pub fn support(amount: i64) -> Message {
+    Message::Support(Support { amount })
+}
+
+/// Each of the eight messages about a key, in range and without a second
+/// price.
+pub fn one_of_each(key: Key) -> [Message; 8] {
+    [
+        open(key, 0, false),
+        revise(key, 0, false),
+        withdraw(key),
+        post(key, 0, 0, 0),
+        finish(key, 0, 0, 0),
+        bill(key, 0),
+        pay(key),
+        support(5),
+    ]
+}
+
+pub fn accepted(requirement: i64, held: i64, net_owed: i64) -> Answer {
+    Answer {
+        refusal: None,
+        requirement,
+        held,
+        net_owed,
+    }
+}
+
+pub fn refused(refusal: Refusal, held: i64, net_owed: i64) -> Answer {
+    Answer {
+        refusal: Some(refusal),
+        requirement: 0,
+        held,
+        net_owed,
+    }
+}
+
+/// Sends a message that must be accepted and gives the requirement back.
+pub fn take(book: &mut Book, message: Message, mwh: &[u64], prices: &[i64]) -> i64 {
+    let answer = book.apply(message, mwh, prices);
+    assert_eq!(answer.refusal, None, "{message:?}");
+    answer.requirement
+}
+
+/// The same for a message without points.
+pub fn send(book: &mut Book, message: Message) -> i64 {
+    take(book, message, &[], &[])
+}
+
+/// Sends a message that must be refused and leave the book as it is.
+pub fn turn_away(book: &mut Book, message: Message, mwh: &[u64], prices: &[i64]) -> Refusal {
+    let before = book.clone();
+    let answer = book.apply(message, mwh, prices);
+    assert_eq!(*book, before, "{message:?}");
+    let refusal = answer.refusal.expect("a refusal");
+    let expected = if refusal == Refusal::BookNotSound {
+        refused(refusal, 0, 0)
+    } else {
+        refused(refusal, sum(book, |_| true), sum(book, |r| r.stage == 4))
+    };
+    assert_eq!(answer, expected, "{message:?}");
+    refusal
+}
+
+/// The sum of the requirements of the chosen records.
+pub fn sum(book: &Book, chosen: impl Fn(&Record) -> bool) -> i64 {
+    book.records
+        .iter()
+        .filter(|record| chosen(record))
+        .map(|record| record.requirement)
+        .sum()
+}
+
+/// The record of an open key.
+pub fn record(book: &Book, key: Key) -> Record {
+    *book
+        .records
+        .iter()
+        .find(|record| record.key == key)
+        .expect("an open key")
+}
+
+pub fn is_open(book: &Book, key: Key) -> bool {
+    book.records.iter().any(|record| record.key == key)
+}
+
+/// Brings an Hour-Ahead export from nothing to a bill.
+pub fn owe(book: &mut Book, key: Key, amount: i64) {
+    take(book, open(key, 0, false), &[1], &[0]);
+    send(book, finish(key, 0, 0, 0));
+    send(book, bill(key, amount));
+}
+
+/// A record at each stage of its kind, put together without messages.
+pub fn staged(kind: u64, stage: u64) -> Record {
+    Record {
+        key: key(kind),
+        stage,
+        bid_mwh: 10,
+        ..Record::FREE
+    }
+}
+
+/// An empty book of the largest support with one record in it.
+pub fn with(record: Record) -> Book {
+    let mut book = wide();
+    book.records[0] = record;
+    book
+}

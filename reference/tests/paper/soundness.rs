@@ -1,0 +1,301 @@
+//! "A book is sound when": each clause broken in turn.
+
+use crate::helpers::*;
+use reference::{Book, Record, Refusal};
+
+/// A sound record of a kind at a stage, with a value in every field that may
+/// hold one.
+fn full(kind: u64, stage: u64) -> Record {
+    let from_2 = stage >= 2 && kind != HOUR_AHEAD_EXPORT;
+    Record {
+        differential: if kind <= EXPORT { 60 } else { 0 },
+        exempt: kind == IMPORT,
+        schedule: if from_2 { 4 } else { 0 },
+        day_ahead_price: if from_2 && kind == IMPORT { -3 } else { 0 },
+        requirement: 9,
+        ..staged(kind, stage)
+    }
+}
+
+fn kinds_and_stages() -> Vec<(u64, u64)> {
+    let mut all = Vec::new();
+    for kind in 1..=4 {
+        for stage in 1..=4 {
+            if (kind, stage) != (HOUR_AHEAD_EXPORT, 2) {
+                all.push((kind, stage));
+            }
+        }
+    }
+    all
+}
+
+/// An unsound book answers refusal 1 to every message and stays as it is.
+#[track_caller]
+fn assert_unsound(book: Book) {
+    assert!(!book.is_sound());
+    let keys = [key(IMPORT), key(HOUR_AHEAD_EXPORT), key(0)];
+    for message in keys.into_iter().flat_map(one_of_each) {
+        let mut next = book.clone();
+        let answer = next.apply(message, MWH, PRICES);
+        assert_eq!(answer, refused(Refusal::BookNotSound, 0, 0));
+        assert_eq!(answer.number(), 1);
+        assert_eq!(next, book);
+    }
+}
+
+/// Whether a book of this one record is sound; an unsound one must refuse.
+#[track_caller]
+fn sound(record: Record) -> bool {
+    let book = with(record);
+    if !book.is_sound() {
+        assert_unsound(book.clone());
+    }
+    book.is_sound()
+}
+
+/// A sound record and the same with a change: sound, then not.
+#[track_caller]
+fn breaks(kind: u64, stage: u64, change: impl Fn(&mut Record)) {
+    let mut record = full(kind, stage);
+    assert!(sound(record), "{record:?}");
+    change(&mut record);
+    assert!(!sound(record), "{record:?}");
+}
+
+/// A sound record and the same with a change: sound, and still so.
+#[track_caller]
+fn keeps(kind: u64, stage: u64, change: impl Fn(&mut Record)) {
+    let mut record = full(kind, stage);
+    assert!(sound(record), "{record:?}");
+    change(&mut record);
+    assert!(sound(record), "{record:?}");
+}
+
+#[test]
+fn every_kind_and_stage_can_be_sound() {
+    for (kind, stage) in kinds_and_stages() {
+        assert!(sound(full(kind, stage)));
+    }
+}
+
+#[test]
+fn support_is_in_range() {
+    for cents in [0, 1, MOST_SUPPORT] {
+        let mut book = wide();
+        book.support = cents;
+        assert!(book.is_sound());
+    }
+    for cents in [-1, i64::MIN, MOST_SUPPORT + 1, i64::MAX] {
+        let mut book = wide();
+        book.support = cents;
+        assert_unsound(book);
+    }
+}
+
+#[test]
+fn keys_are_distinct() {
+    for places in [(0, 1), (0, 255), (100, 200)] {
+        let mut book = wide();
+        book.records[places.0] = full(IMPORT, 1);
+        book.records[places.1] = full(IMPORT, 3);
+        assert_unsound(book.clone());
+        book.records[places.1].key.hour += 1;
+        assert!(book.is_sound());
+        book.records[places.1] = full(EXPORT, 1);
+        assert!(book.is_sound());
+    }
+}
+
+#[test]
+fn free_places_are_zero() {
+    let changes: [fn(&mut Record); 10] = [
+        |record| record.key.path = 1,
+        |record| record.key.hour = 1,
+        |record| record.stage = 1,
+        |record| record.bid_mwh = 1,
+        |record| record.differential = 1,
+        |record| record.exempt = true,
+        |record| record.schedule = 1,
+        |record| record.day_ahead_price = 1,
+        |record| record.requirement = 1,
+        |record| record.requirement = -1,
+    ];
+    for change in changes {
+        for place in [0, 128, 255] {
+            let mut book = wide();
+            change(&mut book.records[place]);
+            assert_unsound(book);
+        }
+    }
+}
+
+#[test]
+fn free_places_may_lie_between_records() {
+    let mut book = wide();
+    book.records[3] = full(IMPORT, 2);
+    book.records[255] = full(WHEEL, 4);
+    assert!(book.is_sound());
+}
+
+#[test]
+fn kinds_are_1_to_4() {
+    for number in [0, 5, u64::MAX] {
+        for (kind, stage) in kinds_and_stages() {
+            breaks(kind, stage, |record| record.key.kind = number);
+        }
+    }
+}
+
+#[test]
+fn paths_are_1_to_999() {
+    for (kind, stage) in kinds_and_stages() {
+        for path in [0, 1000, u64::MAX] {
+            breaks(kind, stage, |record| record.key.path = path);
+        }
+        for path in [1, 999] {
+            keeps(kind, stage, |record| record.key.path = path);
+        }
+    }
+}
+
+#[test]
+fn hours_are_0_to_999_999() {
+    for (kind, stage) in kinds_and_stages() {
+        for hour in [1_000_000, u64::MAX] {
+            breaks(kind, stage, |record| record.key.hour = hour);
+        }
+        for hour in [0, 999_999] {
+            keeps(kind, stage, |record| record.key.hour = hour);
+        }
+    }
+}
+
+#[test]
+fn stages_are_1_to_4() {
+    for (kind, stage) in kinds_and_stages() {
+        for number in [0, 5, u64::MAX] {
+            breaks(kind, stage, |record| record.stage = number);
+        }
+    }
+}
+
+#[test]
+fn stages_are_never_2_for_kind_3() {
+    for stage in [1, 3, 4] {
+        breaks(HOUR_AHEAD_EXPORT, stage, |record| record.stage = 2);
+    }
+}
+
+#[test]
+fn bid_mwh_is_at_most_10_000_for_kinds_1_and_4_and_640_000_otherwise() {
+    for (kind, stage) in kinds_and_stages() {
+        let most = match kind {
+            IMPORT | WHEEL => 10_000,
+            _ => 640_000,
+        };
+        keeps(kind, stage, |record| record.bid_mwh = most);
+        for bid_mwh in [most + 1, u64::MAX] {
+            breaks(kind, stage, |record| record.bid_mwh = bid_mwh);
+        }
+    }
+}
+
+#[test]
+fn differentials_are_in_range_and_0_for_kinds_3_and_4() {
+    for (kind, stage) in kinds_and_stages() {
+        let most = if kind <= EXPORT { 1_000_000 } else { 0 };
+        for differential in [0, most] {
+            keeps(kind, stage, |record| record.differential = differential);
+        }
+        for differential in [most + 1, u64::MAX] {
+            breaks(kind, stage, |record| record.differential = differential);
+        }
+    }
+}
+
+#[test]
+fn schedule_is_at_most_bid_mwh() {
+    for kind in [IMPORT, EXPORT, WHEEL] {
+        for stage in 2..=4 {
+            keeps(kind, stage, |record| record.schedule = 10);
+            keeps(kind, stage, |record| record.schedule = 0);
+            for schedule in [11, u64::MAX] {
+                breaks(kind, stage, |record| record.schedule = schedule);
+            }
+        }
+    }
+}
+
+#[test]
+fn schedule_is_0_at_stage_1_and_for_kind_3() {
+    for kind in 1..=4 {
+        breaks(kind, 1, |record| record.schedule = 1);
+    }
+    for stage in [1, 3, 4] {
+        breaks(HOUR_AHEAD_EXPORT, stage, |record| record.schedule = 1);
+    }
+}
+
+#[test]
+fn the_day_ahead_price_is_0_except_for_kind_1_from_stage_2() {
+    for (kind, stage) in kinds_and_stages() {
+        let may_stand = kind == IMPORT && stage >= 2;
+        for price in [1, -1, 1_000_000, -1_000_000] {
+            if may_stand {
+                keeps(kind, stage, |record| record.day_ahead_price = price);
+            } else {
+                breaks(kind, stage, |record| record.day_ahead_price = price);
+            }
+        }
+        for price in [1_000_001, -1_000_001, i64::MIN, i64::MAX] {
+            breaks(kind, stage, |record| record.day_ahead_price = price);
+        }
+    }
+}
+
+#[test]
+fn the_exempt_mark_stands_only_on_kind_1() {
+    for (kind, stage) in kinds_and_stages() {
+        if kind == IMPORT {
+            keeps(kind, stage, |record| record.exempt = false);
+        } else {
+            breaks(kind, stage, |record| record.exempt = true);
+        }
+    }
+}
+
+#[test]
+fn the_requirement_is_bounded_at_each_stage() {
+    for (kind, stage) in kinds_and_stages() {
+        let (least, most) = match (stage, kind) {
+            (1 | 2, WHEEL) => (0, 20_000_000_000),
+            (1 | 2, _) => (0, 640_000_000_000),
+            (3, _) => (-1_300_000_000_000, 1_300_000_000_000),
+            _ => (-1_000_000_000_000, 1_000_000_000_000),
+        };
+        for requirement in [least, 0, most] {
+            keeps(kind, stage, |record| record.requirement = requirement);
+        }
+        for requirement in [least - 1, most + 1, i64::MIN, i64::MAX] {
+            breaks(kind, stage, |record| record.requirement = requirement);
+        }
+    }
+}
+
+#[test]
+fn a_requirement_need_not_be_the_one_of_the_formula() {
+    // A sound book is bounded, no more is asked: an exempt import at stage 1
+    // may hold an amount.
+    keeps(IMPORT, 1, |record| record.requirement = 640_000_000_000);
+}
+
+#[test]
+fn a_broken_place_anywhere_is_found() {
+    for place in 0..256 {
+        let mut book = wide();
+        book.records[place] = full(IMPORT, 1);
+        assert!(book.is_sound());
+        book.records[place].bid_mwh = 10_001;
+        assert!(!book.is_sound());
+    }
+}
