@@ -7,24 +7,22 @@ use mathlib.Core.Logic.{⊎-elim}
 use Prim.Native.Nat.{ℕ}
 use lib.IntN.{ℤ}
 use Rattle.amounts.specs.Amount.{Within}
-use Rattle.amounts.specs.Lists.{every}
-use Rattle.refusals.specs.Refusals.{Verdict, refuse, accept, None}
+use Rattle.refusals.specs.Refusals.{Verdict, refuse, accept}
 use Rattle.refusals.proofs.Laws.{never}
-use Rattle.records.specs.declared.types.Record.{Record}
 use Rattle.plans.specs.declared.types.Message.{Message}
 use Rattle.plans.specs.declared.types.Message.the-variants.{Open, Revise, Withdraw, Post, Finish, Bill, Pay, Support}
 use Rattle.plans.specs.declared.types.Change.the-variants.{Add, Redo, Move, Drop}
 use Rattle.plans.specs.declared.types.Deed.{Deed}
 use Rattle.plans.specs.declared.types.Deed.the-variants.{On, Refund}
 use Rattle.plans.specs.declared.types.Planned.{Planned}
-use Rattle.records.specs.Records.{okRecord, okPlace, isFree}
+use Rattle.records.specs.Records.{isFree}
 use Rattle.plans.specs.Plan.{keyOf, plan, planned}
 use Rattle.records.proofs.Keys.{ok-place, free-blank}
 use Rattle.records.proofs.Bounds.{requirement-bounded}
-use Rattle.plans.proofs.Fits.{Under, Fits, fits}
-use Rattle.book.specs.Books.{Book, lookup, sound, totals}
-use Rattle.book.specs.Ready.{Light, Ready, Apt, asVerdict}
-use Rattle.book.specs.Step.{weighRows, table, askedOf, verdict, concluded, done, outcome, step}
+use Rattle.plans.proofs.Fits.{Fits, fits}
+use Rattle.book.specs.Books.{Book, lookup, sound}
+use Rattle.book.specs.Ready.{Light, Apt, asVerdict}
+use Rattle.book.specs.Step.{table, askedOf, verdict, concluded, done, outcome, step}
 use Rattle.book.proofs.Kept.{sound-places, lookup-under, done-sound}
 use Rattle.book.proofs.Verdicts.{verdict-is}
 

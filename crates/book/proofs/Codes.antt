@@ -5,16 +5,16 @@ use mathlib.Core.Bool.{Bool, true, false, _&&_, _||_, not, cond}
 use mathlib.Core.List.{List, [], _∷_, map}
 use mathlib.Core.Option.{some}
 use mathlib.Core.Logic.{_⊎_, inl, inr, ⊎-elim}
-use Prim.Native.Nat.{ℕ, _+_, _*_, _<_, _≤_}
+use Prim.Native.Nat.{_+_, _*_, _≤_}
 use native.Mathlib.Omega.{arith}
 use lib.Dec.{leb, eqb}
-use borrow.Author.Tests.{eqb-true, eqb-false, eq-eqb, ne-eqb, leb-true}
+use borrow.Author.Tests.{eqb-true, eqb-false, ne-eqb, leb-true}
 use Rattle.amounts.specs.Limits.{between}
 use Rattle.amounts.specs.Lists.{every}
 use Rattle.refusals.proofs.Laws.{and-left, and-right, never}
 use Rattle.records.specs.declared.types.Key.{Key}
 use Rattle.records.specs.declared.types.Record.{Record}
-use Rattle.records.specs.Records.{blank, isFree, sameKey, at, isPath, isHour, keyFits, okRecord, okPlace}
+use Rattle.records.specs.Records.{blank, isFree, sameKey, at, isPath, isHour, keyFits, okPlace}
 use Rattle.records.proofs.Keys.{sameKey-eq, sameKey-refl, free-blank, at-blank, place-free, place-used}
 use Rattle.records.proofs.Clauses.{clauses}
 use Rattle.apart.specs.Apart.{standsIn, apart}

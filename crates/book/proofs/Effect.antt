@@ -1,8 +1,8 @@
 -- What a change does to the places of a sound book: the laws that soundness and the theorems on runs use, and nothing else.
 -- Assumes nothing.
-use mathlib.Core.Path.{_≡_, refl, sym, ap, _∙_, subst}
-use mathlib.Core.Bool.{Bool, true, false, cond, not}
-use mathlib.Core.List.{List, [], _∷_}
+use mathlib.Core.Path.{_≡_, refl, sym, ap, _∙_}
+use mathlib.Core.Bool.{Bool, true, false}
+use mathlib.Core.List.{List}
 use mathlib.Core.Option.{Option, none, some}
 use Prim.Native.Nat.{ℕ, _+_, _≤_}
 use native.Mathlib.Omega.{arith}
@@ -13,7 +13,7 @@ use Rattle.refusals.proofs.Laws.{never}
 use Rattle.records.specs.declared.types.Key.{Key}
 use Rattle.records.specs.declared.types.Record.{Record}
 use Rattle.records.specs.Records.{blank, sameKey, isFree, at, okPlace}
-use Rattle.records.proofs.Keys.{at-blank, free-blank, at-key, at-used, at-own, free-at, at-apart, place-free, ok-place, ok-blank}
+use Rattle.records.proofs.Keys.{at-blank, at-key, at-used, at-own, free-at, at-apart, place-free, ok-place, ok-blank}
 use Rattle.plans.proofs.Fits.{Fine}
 use Rattle.book.specs.Places.{find, swap, missing}
 use Rattle.book.specs.Books.{distinct}

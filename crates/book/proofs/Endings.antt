@@ -1,19 +1,16 @@
 -- The ways in which a message ends: not sound, turned away, or carried out.
 -- Assumes nothing.
-use mathlib.Core.Path.{_≡_, refl, sym, ap, _∙_}
-use mathlib.Core.Bool.{Bool, true, false, cond}
+use mathlib.Core.Path.{_≡_, refl}
+use mathlib.Core.Bool.{true, false}
 use Prim.Native.Nat.{ℕ}
-use lib.IntN.{ℤ, pos}
-use Rattle.amounts.specs.Amount.{Within}
-use Rattle.amounts.specs.Lists.{every, total}
+use lib.IntN.{pos}
 use Rattle.refusals.specs.Refusals.{first, Verdict, refuse, accept, judge}
 use Rattle.refusals.proofs.Laws.{answered-none, answered-some}
 use Rattle.plans.specs.declared.types.Deed.{Deed}
-use Rattle.records.specs.Records.{okPlace}
 use lib.ListN.{length}
 use Rattle.book.specs.Books.{Book, sound, held, owed, totals, heldShown, owedShown}
 use Rattle.book.specs.Ready.{Small}
-use Rattle.book.specs.Step.{Outcome, Answer, Accepted, Refused, weighRows, weigh, pass, concluded, done, answeredBy, outcome}
+use Rattle.book.specs.Step.{Accepted, Refused, weighRows, weigh, pass, concluded, done, answeredBy, outcome}
 use Rattle.book.proofs.Kept.{sound-places}
 use Rattle.book.proofs.Sums.{total-bounded}
 

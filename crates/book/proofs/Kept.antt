@@ -1,9 +1,9 @@
 -- A sound book stays sound under every accepted message: what stands under a key, what a change that fits does, and the next book.
 -- Assumes nothing.
-use mathlib.Core.Path.{_≡_, refl, sym, ap, _∙_, subst}
-use mathlib.Core.Bool.{Bool, true, false, _&&_, not}
+use mathlib.Core.Path.{_≡_, refl, sym, _∙_, subst}
+use mathlib.Core.Bool.{true, false, _&&_}
 use mathlib.Core.List.{List}
-use mathlib.Core.Logic.{_⊎_, inl, inr, ⊎-elim}
+use mathlib.Core.Logic.{inl, inr}
 use mathlib.Core.Option.{Option, none, some}
 use lib.IntN.{ℤ}
 use Rattle.amounts.specs.Limits.{isSupport}
@@ -17,10 +17,10 @@ use Rattle.plans.specs.declared.types.Change.{Change}
 use Rattle.plans.specs.declared.types.Change.the-variants.{Add, Redo, Move, Drop}
 use Rattle.plans.specs.declared.types.Deed.{Deed}
 use Rattle.plans.specs.declared.types.Deed.the-variants.{On, Refund}
-use Rattle.records.specs.Records.{blank, isFree, at, okRecord, okPlace}
+use Rattle.records.specs.Records.{blank, isFree, at, okPlace}
 use Rattle.plans.specs.Plan.{keyOf}
 use Rattle.records.proofs.Keys.{at-key, at-used, free-blank, place-used}
-use Rattle.plans.proofs.Fits.{Under, Fine, Fits}
+use Rattle.plans.proofs.Fits.{Under, Fits}
 use Rattle.book.specs.Places.{find, swap, missing, orElseBlank}
 use Rattle.book.specs.Books.{Book, lookup, sound, distinct, full, totals}
 use Rattle.book.specs.Step.{weighRows, change, rebook, done}

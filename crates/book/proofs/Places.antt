@@ -1,18 +1,17 @@
 -- The laws of `find`, `swap` and `sum`: what is found, what stands there afterwards, and how a sum moves.
 -- Assumes nothing.
-use mathlib.Core.Path.{_≡_, refl, sym, ap, _∙_, subst, _≡⟨_⟩_, _∎}
-use mathlib.Core.Bool.{Bool, true, false, cond, not, _&&_}
+use mathlib.Core.Path.{_≡_, refl, sym, ap, _∙_}
+use mathlib.Core.Bool.{Bool, true, false, cond, _&&_}
 use mathlib.Core.List.{List, [], _∷_}
-use mathlib.Core.Option.{Option, none, some}
-use Prim.Native.Nat.{ℕ, zero, suc, _+_, _*_, _≤_, _<_, zero-le}
-use native.Mathlib.Nat.{add-assoc, add-comm, le-trans, le-refl}
+use mathlib.Core.Option.{none, some}
+use Prim.Native.Nat.{ℕ, suc, _+_}
+use native.Mathlib.Nat.{add-assoc, add-comm}
 use native.Mathlib.Omega.{arith}
-use lib.IntN.{ℤ, pos, negsuc, _+ℤ_, natAbs, subℕ, +ℤ-assoc, +ℤ-comm}
-use lib.ListN.{length, replicate}
-use lib.Dec.{T, ltb, ltb→lt, nltb→le}
+use lib.IntN.{ℤ, pos, _+ℤ_, +ℤ-assoc, +ℤ-comm}
+use lib.ListN.{length}
 use Rattle.amounts.specs.Lists.{sum, total, count, bit, every}
 use Rattle.refusals.proofs.Laws.{and-left, and-right, and-both}
-use Rattle.book.specs.Places.{find, swap, missing, orElseBlank}
+use Rattle.book.specs.Places.{find, swap}
 
 pub none≢some : {A : Type 0} {X : Type 0} (a : A) → none ≡ some a → X
 none≢some a e = let z : _≡_ {A = ℕ} 0 1 = cc in absurd (omega arith)

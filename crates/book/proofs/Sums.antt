@@ -1,16 +1,16 @@
 -- Sums over the places of a book in range: 256 requirements, each within 1,300,000,000,000.
 -- Assumes nothing.
-use mathlib.Core.Path.{_≡_, refl, sym, ap, subst, _∙_}
+use mathlib.Core.Path.{_≡_, refl, sym, ap}
 use mathlib.Core.Bool.{Bool, true, false, _&&_, not, cond}
 use mathlib.Core.List.{List, [], _∷_}
-use Prim.Native.Nat.{ℕ, zero, suc, _+_, _-_, _*_, _<_, _≤_}
+use Prim.Native.Nat.{ℕ, zero, suc, _+_, _-_, _<_, _≤_}
 use native.Mathlib.Omega.{arith}
 use native.Mathlib.Nat.{mul-le-mul-right}
 use lib.Dec.{eqb}
 use lib.IntN.{ℤ, pos, _+ℤ_}
 use lib.ListN.{length, getD, drop, length-drop}
 use lib.Seq.{drop-cons, getD-drop}
-use Rattle.amounts.specs.Amount.{up, down, Range}
+use Rattle.amounts.specs.Amount.{Range}
 use Rattle.amounts.specs.Lists.{sum, total, every}
 use Rattle.amounts.proofs.Sums.{range-total}
 use Rattle.amounts.proofs.Signed.{range-wider}

@@ -2,19 +2,19 @@
 -- Assumes nothing.
 use mathlib.Core.Path.{_≡_, refl, sym, ap, _∙_}
 use mathlib.Core.Bool.{Bool, true, false, not, cond}
-use mathlib.Core.List.{List, [], _∷_, _++_}
+use mathlib.Core.List.{List, _++_}
 use Prim.Native.Nat.{ℕ}
 use native.Mathlib.Omega.{arith}
 use lib.Dec.{eqb}
 use lib.IntN.{ℤ}
-use borrow.Author.Tests.{eqb-true, eqb-false, eq-eqb}
-use Rattle.refusals.specs.Refusals.{Row, row, first, Verdict, refuse, accept, judge, answered, orElse, None, numbered}
-use Rattle.refusals.proofs.Laws.{first-append, numbered-append, answered-none, answered-some, judge-accept, judge-none, none-split, never}
+use borrow.Author.Tests.{eqb-false}
+use Rattle.refusals.specs.Refusals.{Row, first, Verdict, refuse, accept, judge, answered, orElse, numbered}
+use Rattle.refusals.proofs.Laws.{first-append, answered-some}
 use Rattle.plans.specs.declared.types.Message.{Message}
 use Rattle.plans.specs.declared.types.Deed.{Deed}
 use Rattle.plans.specs.declared.types.Deed.the-variants.{On, Refund}
 use Rattle.plans.specs.declared.types.Change.the-variants.{Add, Redo, Move, Drop}
-use Rattle.plans.specs.Plan.{keyOf, asked, planRows, plan}
+use Rattle.plans.specs.Plan.{keyOf, planRows, plan}
 use Rattle.plans.proofs.Fits.{plan-rows-numbered}
 use Rattle.book.specs.Books.{Book, Totals, lookup, sound, totals}
 use Rattle.book.specs.Step.{weighRows, askedOf, table, verdict, weigh, pass, concluded}

@@ -1,8 +1,7 @@
 -- What the code's own steps ask of the numbers that they add, so that no sum leaves an i64. Nothing here is the paper's; no public function asks it.
 -- Assumes nothing.
 use mathlib.Core.Path.{_≡_}
-use mathlib.Core.Bool.{Bool, true}
-use lib.IntN.{ℤ}
+use mathlib.Core.Bool.{true}
 use Rattle.amounts.specs.Amount.{Within}
 use Rattle.amounts.specs.Lists.{every}
 use Rattle.refusals.specs.Refusals.{Verdict, refuse, accept, None}

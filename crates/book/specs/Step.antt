@@ -1,7 +1,7 @@
 -- Document 01, 'Messages and stages' and 'Turned away, and why': what a message answers, and the next book.
 -- A message's refusals 2 to 13 and what it asks for stand in crate `records`, specs/Plan.antt.
 -- Assumes nothing.
-use mathlib.Core.Bool.{Bool, true, false, _&&_, not, cond}
+use mathlib.Core.Bool.{_&&_, not, cond}
 use mathlib.Core.List.{List, [], _∷_, _++_}
 use Prim.Native.Nat.{ℕ}
 use lib.IntN.{ℤ, pos, _+ℤ_, _-ℤ_}

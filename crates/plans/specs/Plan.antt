@@ -8,7 +8,7 @@ use lib.Dec.{leb, eqb}
 use lib.IntN.{ℤ, pos}
 use Rattle.amounts.specs.Limits.{isSupport}
 use Rattle.refusals.specs.Refusals.{Row, row, Verdict, refuse, accept, judge}
-use Rattle.bids.specs.Rows.{isKind, bidRows}
+use Rattle.bids.specs.Rows.{bidRows}
 use Rattle.formulas.specs.Rows.{deliveryRows, billRows}
 use Rattle.bids.specs.declared.types.Bid.{Bid}
 use Rattle.refusals.specs.Figures.{figure, centsOf}
@@ -27,7 +27,7 @@ pub use Rattle.plans.specs.declared.types.Deed.the-variants.{On, Refund}
 use Rattle.plans.specs.declared.types.Planned.the-variants.{Refused, Asks}
 use Rattle.records.specs.declared.types.Key.{Key}
 use Rattle.records.specs.declared.types.Record.{Record}
-use Rattle.records.specs.Records.{blank, isFree, isPath, isHour, keyRows}
+use Rattle.records.specs.Records.{blank, isFree, keyRows}
 
 -- ---- the record of each stage. 01: 'Fields that a message doesn't set keep their values'
 

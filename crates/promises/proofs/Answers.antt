@@ -1,15 +1,14 @@
 -- Demand 1: any message meets any book, sound or not, with a fixed answer.
 -- Assumes nothing.
-use mathlib.Core.Path.{_≡_, refl, sym, ap, _∙_, subst}
-use mathlib.Core.Bool.{Bool, true, false, not, cond}
-use mathlib.Core.List.{List, _∷_, _++_}
+use mathlib.Core.Path.{_≡_, refl, sym, _∙_, subst}
+use mathlib.Core.Bool.{Bool, true, false, cond}
+use mathlib.Core.List.{List}
 use Prim.Native.Nat.{ℕ}
-use native.Mathlib.Omega.{arith}
 use lib.Dec.{eqb}
 use lib.IntN.{ℤ, pos}
-use borrow.Author.Tests.{eqb-true, eqb-false}
-use Rattle.refusals.specs.Refusals.{row, first, Verdict, refuse, accept, answered, judge, None, First, numbered}
-use Rattle.refusals.proofs.Laws.{none-applies, none-first, first-applies, first-is, numbered-append, and-both}
+use borrow.Author.Tests.{eqb-true}
+use Rattle.refusals.specs.Refusals.{first, refuse, accept, answered, judge, None, First, numbered}
+use Rattle.refusals.proofs.Laws.{none-applies, none-first, first-applies, first-is, numbered-append}
 use Rattle.plans.specs.declared.types.Message.{Message}
 use Rattle.plans.specs.declared.types.Deed.{Deed}
 use Rattle.plans.specs.Plan.{keyOf, planRows}
@@ -17,14 +16,11 @@ use Rattle.plans.proofs.Fits.{plan-rows-numbered}
 use Rattle.book.specs.declared.types.Book.{Book}
 use Rattle.book.specs.declared.types.Outcome.{Outcome}
 use Rattle.book.specs.Books.{lookup, sound, held, owed, totals, heldShown, owedShown}
-use Rattle.book.specs.Step.{Reply, reply, weighRows, askedOf, table, verdict, outcome, step}
+use Rattle.book.specs.Step.{reply, weighRows, askedOf, table, verdict, outcome, step}
+use Rattle.promises.specs.Statements.{replied, Unchanged}
 use Rattle.book.proofs.Verdicts.{weigh-rows-numbered}
 
 module _ (b : Book) (m : Message) (ms : List ℕ) (ps : List ℤ) where
-  -- the paper's number and values of the answer
-  abbrev pub replied : Reply
-  replied = reply (step b m ms ps .answer)
-
   pub table-numbered : numbered (table b m ms ps) ≡ true
   unfolding table numbered
   table-numbered =
@@ -37,31 +33,24 @@ module _ (b : Book) (m : Message) (ms : List ℕ) (ps : List ℤ) where
   number-by n d false e = refl
 
   -- the number that is answered is the first row of the table that applies; 0 is none
-  pub number-is : replied .number ≡ first (table b m ms ps)
+  pub number-is : replied b m ms ps .number ≡ first (table b m ms ps)
   unfolding step verdict judge answered
   number-is = number-by (first (table b m ms ps)) (askedOf b m ms ps) (eqb (first (table b m ms ps)) 0) refl
 
   -- 'accepted exactly when none of document 01's refusals applies'
-  pub accepted-none : replied .number ≡ 0 → None (table b m ms ps)
+  pub accepted-none : replied b m ms ps .number ≡ 0 → None (table b m ms ps)
   accepted-none h = none-applies (table b m ms ps) table-numbered (sym number-is ∙ h)
 
-  pub none-accepted : None (table b m ms ps) → replied .number ≡ 0
+  pub none-accepted : None (table b m ms ps) → replied b m ms ps .number ≡ 0
   none-accepted h = number-is ∙ none-first (table b m ms ps) h
 
   -- 'else the first in 01's order'
-  pub refused-first : (replied .number ≡ 0 → ⊥) → First (replied .number) (table b m ms ps)
+  pub refused-first : (replied b m ms ps .number ≡ 0 → ⊥) → First (replied b m ms ps .number) (table b m ms ps)
   refused-first h =
       subst (λ (n : ℕ). First n (table b m ms ps)) (sym number-is) (first-applies (table b m ms ps) (λ z. h (number-is ∙ z)))
 
-  pub first-refused : (n : ℕ) → First n (table b m ms ps) → replied .number ≡ n
+  pub first-refused : (n : ℕ) → First n (table b m ms ps) → replied b m ms ps .number ≡ n
   first-refused n h = number-is ∙ first-is n (table b m ms ps) h
-
-  -- 'A refusal gives back the same book', and answers requirement 0 and the held and net owed of that book
-  pub record Unchanged : Type 0 where
-    pub book : step b m ms ps .book ≡ b
-    pub requirement : replied .requirement ≡ pos 0
-    pub held : replied .held ≡ heldShown b
-    pub owed : replied .owed ≡ owedShown b
 
   unchanged-by : (n : ℕ) (d : Deed) (t : Bool) → eqb n 0 ≡ t → (n ≡ 0 → ⊥) → (o : Outcome) → o ≡ outcome b (cond t (accept d) (refuse n))
       → (o .book ≡ b) × ((reply (o .answer) .requirement ≡ pos 0) × ((reply (o .answer) .held ≡ heldShown b) × (reply (o .answer) .owed ≡ owedShown b)))
@@ -69,7 +58,8 @@ module _ (b : Book) (m : Message) (ms : List ℕ) (ps : List ℤ) where
   unchanged-by n d true e h o q = absurd (h (eqb-true n 0 e))
   unchanged-by n d false e h o q = rw q (refl, (refl, (refl, refl)))
 
-  pub unchanged : (replied .number ≡ 0 → ⊥) → Unchanged
+  -- 'A refusal gives back the same book'
+  pub unchanged : (replied b m ms ps .number ≡ 0 → ⊥) → Unchanged b m ms ps
   unfolding step verdict judge answered
   unchanged h =
       let n = first (table b m ms ps) in

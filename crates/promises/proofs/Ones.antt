@@ -24,7 +24,8 @@ use Rattle.book.specs.declared.types.Book.{Book}
 use Rattle.book.specs.declared.types.Totals.{Totals}
 use Rattle.book.specs.Books.{lookup, sound, totals}
 use Rattle.book.specs.Step.{weighRows, askedOf, table}
-use Rattle.promises.proofs.Answers.{replied, number-is}
+use Rattle.promises.specs.Statements.{replied}
+use Rattle.promises.proofs.Answers.{number-is}
 
 -- no row has the number 1; a test that is computed, whatever the rows say
 unfoldable others : List Row → Bool

@@ -1,17 +1,15 @@
 -- Demand 2: what an accepted message leaves under its key, by document 01's formulas, and that it leaves every other record as it was.
 -- Assumes nothing.
 use mathlib.Core.Path.{_≡_, refl, sym, ap, _∙_, subst}
-use mathlib.Core.Bool.{Bool, true, false}
+use mathlib.Core.Bool.{true, false}
 use mathlib.Core.List.{List}
-use mathlib.Core.Option.{Option, none, some}
 use Prim.Native.Nat.{ℕ}
-use lib.IntN.{ℤ, pos}
+use lib.IntN.{ℤ}
 use Rattle.refusals.specs.Refusals.{None}
-use Rattle.bids.specs.declared.types.Bid.{Bid}
 use Rattle.formulas.specs.Stages.{postedRequirement, finishedRequirement}
 use Rattle.records.specs.declared.types.Key.{Key}
 use Rattle.records.specs.declared.types.Record.{Record}
-use Rattle.records.specs.Records.{blank, sameKey, at}
+use Rattle.records.specs.Records.{blank, sameKey}
 use Rattle.plans.specs.declared.types.Message.{Message}
 use Rattle.plans.specs.declared.types.Message.the-variants.{Open, Revise, Withdraw, Post, Finish, Bill, Pay, Support}
 use Rattle.plans.specs.declared.types.Opening.{Opening}
@@ -22,16 +20,16 @@ use Rattle.plans.specs.declared.types.Funding.{Funding}
 use Rattle.plans.specs.declared.types.Change.{Change}
 use Rattle.plans.specs.declared.types.Deed.{Deed}
 use Rattle.plans.specs.declared.types.Deed.the-variants.{On, Refund}
-use Rattle.plans.specs.Plan.{keyOf, asked, opened, posted, moved, bidFor, postedFor, finishedFor}
+use Rattle.plans.specs.Plan.{keyOf, opened, posted, moved}
 use Rattle.plans.proofs.Fits.{Fits}
 use Rattle.plans.proofs.Formulas.{bidOf01, bid-is, revised-is, posted-is, finished-is}
 use Rattle.book.specs.declared.types.Book.{Book}
-use Rattle.book.specs.Places.{find, orElseBlank}
+use Rattle.book.specs.Places.{orElseBlank}
 use Rattle.book.specs.Books.{lookup, sound, totals}
-use Rattle.book.specs.Step.{weighRows, askedOf, change, rebook, done, step}
+use Rattle.book.specs.Step.{weighRows, askedOf, rebook, done, step}
 use Rattle.book.proofs.Kept.{leaves, effect, lookup-under}
-use Rattle.promises.proofs.Answers.{replied}
-use Rattle.promises.proofs.Taken.{Taken, taken}
+use Rattle.promises.specs.Statements.{replied}
+use Rattle.promises.proofs.Taken.{taken, fitting}
 
 -- the record that stands under a key after a change; blank where none does
 abbrev pub left : Change → Record
@@ -56,13 +54,13 @@ module _ (b : Book) (m : Message) (ms : List ℕ) (ps : List ℤ) (ok : replied 
   pub others-kept : (l : Key) → sameKey (keyOf m) l ≡ false → lookup next l ≡ lookup b l
   others-kept l h =
       let k = taken b m ms ps ok in
-      ap (λ (x : Book). lookup x l) (k .next) ∙ there-by b m (askedOf b m ms ps) (k .sane) (k .fitting) (k .weighed) l h
+      ap (λ (x : Book). lookup x l) (k .next) ∙ there-by b m (askedOf b m ms ps) (k .sane) (fitting b m ms ps k) (k .weighed) l h
 
   here : (c : Change) → askedOf b m ms ps ≡ On c → lookup next (keyOf m) ≡ left c
   here c e =
       let k = taken b m ms ps ok in
       ap (λ (x : Book). lookup x (keyOf m)) (k .next ∙ ap (done b) e)
-      ∙ here-by b m c (k .sane) (subst (Fits (lookup b (keyOf m)) m) e (k .fitting)) (subst (λ (d : Deed). None (weighRows (totals b) d)) e (k .weighed))
+      ∙ here-by b m c (k .sane) (subst (Fits (lookup b (keyOf m)) m) e (fitting b m ms ps k)) (subst (λ (d : Deed). None (weighRows (totals b) d)) e (k .weighed))
 
 -- ---- each message, at the stage and with the requirement that 01 says
 

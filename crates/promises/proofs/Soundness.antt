@@ -4,34 +4,31 @@ use mathlib.Core.Path.{_≡_, refl, sym, ap, _∙_, subst}
 use mathlib.Core.Bool.{Bool, true, false, cond, _&&_}
 use mathlib.Core.List.{List, [], _∷_}
 use Prim.Native.Nat.{ℕ}
-use native.Mathlib.Omega.{arith}
 use lib.Dec.{eqb}
 use lib.IntN.{ℤ, pos, _*ℤ_}
-use lib.ListN.{length}
 use lib.Signed.{leZ}
 use borrow.Author.Tests.{eqb-true, eqb-false}
 use Rattle.amounts.specs.Limits.{isSupport}
 use Rattle.amounts.specs.Lists.{sum, every}
-use Rattle.refusals.specs.Refusals.{first}
 use Rattle.refusals.proofs.Laws.{and-left, and-right, and-both}
 use Rattle.plans.specs.declared.types.Message.{Message}
-use Rattle.records.specs.Records.{blank, isBlank, isFree, okPlace}
-use Rattle.records.proofs.Keys.{ok-blank}
+use Rattle.records.specs.Records.{isBlank, isFree, okPlace}
 use Rattle.book.specs.declared.types.Book.{Book}
 use Rattle.book.specs.Books.{sound, distinct, held, owed, owes, totals, suspended, suspendedShown, noRecords, empty}
 use Rattle.book.specs.declared.types.Outcome.{Outcome}
 use Rattle.book.specs.declared.types.Answer.the-variants.{Accepted, Refused}
-use Rattle.book.specs.Step.{fresh, step, askedOf, done}
+use Rattle.book.specs.Step.{fresh, step, askedOf}
 use Rattle.book.proofs.Kept.{done-sound}
+use Rattle.promises.specs.Statements.{replied}
 use Rattle.promises.specs.Runs.{Sent, after}
-use Rattle.promises.proofs.Answers.{replied, unchanged}
+use Rattle.promises.proofs.Answers.{unchanged}
 use Rattle.promises.proofs.Ones.{one-unsound}
-use Rattle.promises.proofs.Taken.{taken}
+use Rattle.promises.proofs.Taken.{taken, fitting}
 
 kept-by : (b : Book) (m : Message) (ms : List ℕ) (ps : List ℤ) (t : Bool) → eqb (replied b m ms ps .number) 0 ≡ t → sound b ≡ true → sound (step b m ms ps .book) ≡ true
 kept-by b m ms ps true e h =
     let k = taken b m ms ps (eqb-true (replied b m ms ps .number) 0 e) in
-    subst (λ (x : Book). sound x ≡ true) (sym (k .next)) (done-sound b m (askedOf b m ms ps) h (k .fitting) (k .weighed))
+    subst (λ (x : Book). sound x ≡ true) (sym (k .next)) (done-sound b m (askedOf b m ms ps) h (fitting b m ms ps k) (k .weighed))
 kept-by b m ms ps false e h =
     subst (λ (x : Book). sound x ≡ true) (sym (unchanged b m ms ps (eqb-false (replied b m ms ps .number) 0 e) .book)) h
 

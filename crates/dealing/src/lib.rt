@@ -1,0 +1,1 @@
+// Demand 3: theorems alone, over the book's own definitions.
