@@ -1,0 +1,47 @@
+// Reads what is done to one book from standard input, one message a line, and writes each line back with the book's answer.
+mod act;
+mod numbers;
+mod say;
+
+ghost use Prim.Native.Nat.{_≤_};
+ghost use lib.ListN.{length};
+use book::types::Book;
+use libc::STDIN_FILENO;
+
+// The end of the line that goes on from here.
+fn line_end(text: &[u8], from: usize) -> usize
+    requires { ⌜ from ≤ length (now text) ⌝ }
+    ensures { λ r. ⌜ (from ≤ r) × (r ≤ length (now (text .entry))) ⌝ }
+{
+    let mut at = from;
+    while at < text.len() {
+        if text[at] == b'\n' {
+            return at;
+        }
+        at += 1;
+    }
+    at
+}
+
+fn line(book: Book, text: &[u8]) -> Book {
+    say::print(text);
+    let next = act::act(book, text);
+    say::print(b"\n");
+    next
+}
+
+fn run(text: &[u8]) {
+    let mut book = Book::fresh(0).book;
+    let mut at: usize = 0;
+    while at < text.len() {
+        let end = line_end(text, at);
+        book = line(book, &text[at..end]);
+        at = end + 1;
+    }
+}
+
+fn main() {
+    let mut space = io::large_buffer();
+    let read = io::read_full(STDIN_FILENO, &mut space);
+    run(&space[..read]);
+}

@@ -1,0 +1,179 @@
+//! Tells the script of the program `edges` to this crate's book. What it
+//! prints is what that program must write.
+
+use reference::book::{Bill, Finish, Opening, Payment, Posting, Revision, Support, Withdrawal};
+use reference::{Answer, Book, Key, Message, Record};
+
+const SCRIPT: &str = include_str!("../../crates/edges/stdin");
+
+fn main() {
+    let (mut book, _) = Book::fresh(0);
+    for line in SCRIPT.lines() {
+        println!("{line}{}", answered(&mut book, line));
+    }
+}
+
+/// What the book answers to a line, by its first word: "a" fresh book, a
+/// look at the book, a change that no message makes, or a message.
+fn answered(book: &mut Book, line: &str) -> String {
+    let word = line.split(' ').next().unwrap_or_default();
+    let numbers = Numbers::of(line);
+    match word {
+        "a" => {
+            let (fresh, answer) = Book::fresh(numbers.signed(0));
+            let before = std::mem::replace(book, fresh);
+            shown(&before, book, answer)
+        }
+        "write" => {
+            book.records[numbers.place()] = numbers.record();
+            String::new()
+        }
+        "endow" => {
+            book.support = numbers.signed(0);
+            String::new()
+        }
+        "look" => fields(&book.records[numbers.place()]),
+        "sums" => sums(book),
+        _ => match message(word, &numbers) {
+            Some(message) => {
+                let (mwh, prices) = numbers.points();
+                let before = book.clone();
+                let answer = book.apply(message, &mwh, &prices);
+                shown(&before, book, answer)
+            }
+            None => String::new(),
+        },
+    }
+}
+
+/// The message of a word and its numbers, in the order of document 01.
+fn message(word: &str, numbers: &Numbers) -> Option<Message> {
+    let key = numbers.key(0);
+    let message = match word {
+        "open" => Message::Open(Opening {
+            key,
+            differential: numbers.whole(3),
+            exempt: numbers.whole(4) == 1,
+        }),
+        "revise" => Message::Revise(Revision {
+            key,
+            differential: numbers.whole(3),
+            exempt: numbers.whole(4) == 1,
+        }),
+        "withdraw" => Message::Withdraw(Withdrawal { key }),
+        "post" => Message::Post(Posting {
+            key,
+            schedule: numbers.whole(3),
+            first_price: numbers.signed(4),
+            second_price: numbers.signed(5),
+        }),
+        "finish" => Message::Finish(Finish {
+            key,
+            actual: numbers.whole(3),
+            first_price: numbers.signed(4),
+            second_price: numbers.signed(5),
+        }),
+        "bill" => Message::Bill(Bill {
+            key,
+            amount: numbers.signed(3),
+        }),
+        "pay" => Message::Pay(Payment { key }),
+        "support" => Message::Support(Support {
+            amount: numbers.signed(0),
+        }),
+        _ => return None,
+    };
+    Some(message)
+}
+
+fn shown(before: &Book, after: &Book, answer: Answer) -> String {
+    format!(
+        ": {} {} {} {} {}",
+        answer.number(),
+        answer.requirement,
+        answer.held,
+        answer.net_owed,
+        if before == after { "same" } else { "changed" }
+    )
+}
+
+fn fields(record: &Record) -> String {
+    let Key { kind, path, hour } = record.key;
+    format!(
+        ": {kind} {path} {hour} {} {} {} {} {} {} {}",
+        record.stage,
+        record.bid_mwh,
+        record.differential,
+        u64::from(record.exempt),
+        record.schedule,
+        record.day_ahead_price,
+        record.requirement
+    )
+}
+
+fn sums(book: &Book) -> String {
+    format!(
+        ": {} {} {}{}",
+        book.support,
+        book.held(),
+        book.net_owed(),
+        if book.is_suspended() {
+            " suspended"
+        } else {
+            ""
+        }
+    )
+}
+
+/// The numbers of a line; those that it lacks are 0.
+struct Numbers(Vec<i64>);
+
+impl Numbers {
+    fn of(line: &str) -> Numbers {
+        let in_number = |c: char| c.is_ascii_digit() || c == '-';
+        let words = line.split(|c| !in_number(c));
+        Numbers(words.filter_map(|word| word.parse().ok()).collect())
+    }
+
+    fn signed(&self, at: usize) -> i64 {
+        self.0.get(at).copied().unwrap_or(0)
+    }
+
+    fn whole(&self, at: usize) -> u64 {
+        self.signed(at).unsigned_abs()
+    }
+
+    fn place(&self) -> usize {
+        self.whole(0) as usize
+    }
+
+    fn key(&self, at: usize) -> Key {
+        Key {
+            kind: self.whole(at),
+            path: self.whole(at + 1),
+            hour: self.whole(at + 2),
+        }
+    }
+
+    /// The record that is written after its place.
+    fn record(&self) -> Record {
+        Record {
+            key: self.key(1),
+            stage: self.whole(4),
+            bid_mwh: self.whole(5),
+            differential: self.whole(6),
+            exempt: self.whole(7) == 1,
+            schedule: self.whole(8),
+            day_ahead_price: self.signed(9),
+            requirement: self.signed(10),
+        }
+    }
+
+    /// From the sixth on: MWh and price, by turns.
+    fn points(&self) -> (Vec<u64>, Vec<i64>) {
+        let points = self.0.get(5..).unwrap_or_default();
+        let mwh = points.iter().step_by(2).map(|mwh| mwh.unsigned_abs());
+        let prices = points.iter().skip(1).step_by(2).copied();
+        (mwh.collect(), prices.collect())
+    }
+}
