@@ -70,12 +70,12 @@ impl Book {
     }
 
     // And a record for a place past the last is put nowhere.
-    pub(crate) fn put(self, place: usize, new: Record) -> Book
-        ensures { λ r. ⌜ r ≡ rebook self (self .support) (set (self .records) place new) ⌝ }
+    pub(crate) fn put(self, at: usize, new: Record) -> Book
+        ensures { λ r. ⌜ r ≡ rebook self (self .support) (set (self .records) at new) ⌝ }
     {
         let mut next = self;
-        if place < Book::PLACES {
-            next.records[place] = new;
+        if at < Book::PLACES {
+            next.records[at] = new;
         }
         next
     }

@@ -18,7 +18,7 @@ returns c = search needs
 returns-2 : tie.Need-returns-2
 returns-2 c =
     let a = c .before .args in
-    rw (set-out (a .self .records) (a .place) (a .new) (past (a .self .records) (a .place) 256 (simp length-map at (c .before .good .0 .1 .1 .0 .1 .0 .1)) (c .if1 .left)))
+    rw (set-out (a .self .records) (a .at) (a .new) (past (a .self .records) (a .at) 256 (simp length-map at (c .before .good .0 .1 .1 .0 .1 .0 .1)) (c .if1 .left)))
 
 pub put-spec : {M : Type 1} → statement M
 put-spec = tie.close (tie.spec mul-new element-set-from-new returns returns-2)
