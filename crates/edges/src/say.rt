@@ -1,4 +1,4 @@
-// What is written after a line: the number of the refusal or 0, the requirement, held and net owed; then whether the book is the same.
+// What is written after a line.
 use book::types::Answer;
 use book::types::Book;
 use book::types::Outcome;

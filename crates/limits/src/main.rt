@@ -1,154 +1,357 @@
-// The formula entries at and one past each limit of document 01: a line each, with the values that were given, the refusal's number (0 for none) and the amount in cents.
-mod lines;
+// The formulas at the limits of document 01's numbers and past them, one line each: what is asked, then the refusal's number or 0, and the amount.
+use bids::types::BidAnswer;
+use libc::STDOUT_FILENO;
+use refusals::Figure;
 
-use lines::bid;
-use lines::billed;
-use lines::exposure;
-use lines::finished;
-use lines::posted;
+const U64_MAX: u64 = 18_446_744_073_709_551_615;
 
-// The lowest and the highest price that an i64 holds, and the largest number of MWh that a u64 holds.
-const LOWEST: i64 = -9_223_372_036_854_775_808;
+const I64_MIN: i64 = -9_223_372_036_854_775_808;
 
-const HIGHEST: i64 = 9_223_372_036_854_775_807;
+const I64_MAX: i64 = 9_223_372_036_854_775_807;
 
-const MOST: u64 = 18_446_744_073_709_551_615;
-
-fn counts() {
-    let mwh = [10_000u64; 65];
-    let prices = [1_000_000i64; 65];
-    bid(b"no points", 2, &mwh[..0], &prices[..0], 0);
-    bid(b"64 points", 2, &mwh[..64], &prices[..64], 0);
-    bid(b"65 points", 2, &mwh, &prices, 0);
-    bid(b"2 MWh and 3 prices", 2, &mwh[..2], &prices[..3], 0);
-    bid(b"3 MWh and 2 prices", 2, &mwh[..3], &prices[..2], 0);
-    exposure(b"no points", &mwh[..0], &prices[..0]);
-    exposure(b"64 points", &mwh[..64], &prices[..64]);
-    exposure(b"65 points", &mwh, &prices);
+fn print(word: &[u8]) {
+    io::write_all(STDOUT_FILENO, word);
 }
 
-fn points(label: &[u8], mwh: u64, price: i64) {
-    let mwhs = [mwh];
-    let prices = [price];
-    bid(label, 2, &mwhs, &prices, 0);
-    bid(label, 4, &mwhs, &prices, 0);
-    exposure(label, &mwhs, &prices);
+fn whole(word: &[u8], value: u64) {
+    print(word);
+    io::print_decimal(STDOUT_FILENO, value);
 }
 
-fn quantities_and_prices() {
-    points(b"10000 MWh at 1000000", 10_000, 1_000_000);
-    points(b"10001 MWh at 1000000", 10_001, 1_000_000);
-    points(b"10000 MWh at 1000001", 10_000, 1_000_001);
-    points(b"10000 MWh at -1000000", 10_000, -1_000_000);
-    points(b"10000 MWh at -1000001", 10_000, -1_000_001);
-    points(b"most MWh at the lowest price", MOST, LOWEST);
-    points(b"1 MWh at the lowest price", 1, LOWEST);
-    points(b"1 MWh at the highest price", 1, HIGHEST);
+fn cents(word: &[u8], value: i64) {
+    print(word);
+    if value < 0 {
+        print(b"-");
+    }
+    io::print_decimal(STDOUT_FILENO, amounts::magnitude(value));
 }
 
-fn kinds_and_differentials() {
-    let mwh = [10_000u64];
-    let prices = [0i64];
-    bid(b"differential 1000000", 1, &mwh, &prices, 1_000_000);
-    bid(b"differential 1000001", 1, &mwh, &prices, 1_000_001);
-    bid(b"most differential", 2, &mwh, &prices, MOST);
-    bid(b"differential 1", 3, &mwh, &prices, 1);
-    bid(b"differential 1", 4, &mwh, &prices, 1);
-    bid(b"no kind", 0, &mwh, &prices, 0);
-    bid(b"kind 5 and differential too", 5, &mwh, &prices, MOST);
-    bid(b"most kind", MOST, &mwh, &prices, 0);
+fn answered(refusal: u64, amount: i64) {
+    whole(b": ", refusal);
+    cents(b" ", amount);
+    print(b"\n");
 }
 
-fn posts() {
-    posted(b"schedule 640000", 2, 1_000_000, 640_000, 1_000_000, 0);
-    posted(b"schedule 640001", 2, 1_000_000, 640_001, 1_000_000, 0);
-    posted(b"most schedule", 1, 0, MOST, LOWEST, HIGHEST);
-    posted(b"price 1000001", 2, 0, 1, 1_000_001, 0);
-    posted(b"second price 1", 1, 0, 1, 0, 1);
-    posted(b"second price -1", 2, 0, 1, 0, -1);
-    posted(b"differential 1000001", 2, 1_000_001, 1, 0, 0);
-    posted(b"differential 1", 4, 1, 1, 0, 0);
-    posted(b"Hour-Ahead", 3, 0, 1, 0, 0);
-    posted(b"Hour-Ahead and second price 1", 3, 0, 1, 0, 1);
-    posted(
-        b"both prices at their ends",
-        4,
-        0,
-        10_000,
-        1_000_000,
-        -1_000_000,
+fn figure(answer: Figure) {
+    answered(answer.refusal(), answer.cents());
+}
+
+// ---- lists of equal numbers, as long as asked for
+
+fn list_bid(
+    kind: u64,
+    mwh: &[u64],
+    quantities: usize,
+    prices: &[i64],
+    priced: usize,
+    differential: u64,
+) -> BidAnswer {
+    if quantities <= mwh.len() {
+        if priced <= prices.len() {
+            return bids::bid(
+                kind,
+                &mwh[..quantities],
+                &prices[..priced],
+                differential,
+                false,
+            );
+        }
+    }
+    bids::bid(kind, mwh, prices, differential, false)
+}
+
+fn list_exposure(mwh: &[u64], quantities: usize, prices: &[i64], priced: usize) -> Figure {
+    if quantities <= mwh.len() {
+        if priced <= prices.len() {
+            return bids::price_exposure(&mwh[..quantities], &prices[..priced]);
+        }
+    }
+    bids::price_exposure(mwh, prices)
+}
+
+fn list(quantities: usize, mwh: u64, priced: usize, price: i64) {
+    whole(b" with ", quantities as u64);
+    whole(b" times ", mwh);
+    whole(b" MWh and ", priced as u64);
+    cents(b" times price ", price);
+}
+
+// ---- the entries
+
+fn bid(kind: u64, quantities: usize, mwh: u64, priced: usize, price: i64, differential: u64) {
+    whole(b"bid kind ", kind);
+    list(quantities, mwh, priced, price);
+    whole(b" differential ", differential);
+    let answer = list_bid(
+        kind,
+        &[mwh; 65],
+        quantities,
+        &[price; 65],
+        priced,
+        differential,
     );
-    posted(b"kind 5", 5, 0, 1, 0, 0);
+    answered(answer.refusal(), answer.bid().cents);
 }
 
-fn finishes() {
-    finished(
-        b"posted 640000000000",
-        2,
-        640_000,
-        640_000_000_000,
-        0,
-        -1_000_000,
-        0,
-    );
-    finished(
-        b"posted 640000000001",
-        2,
-        640_000,
-        640_000_000_001,
-        0,
-        -1_000_000,
-        0,
-    );
-    finished(b"posted -1", 2, 0, -1, 0, 0, 0);
-    finished(
-        b"posted 20000000000",
-        4,
-        0,
-        20_000_000_000,
-        640_000,
-        1_000_000,
-        -1_000_000,
-    );
-    finished(
-        b"posted 20000000001",
-        4,
-        0,
-        20_000_000_001,
-        640_000,
-        1_000_000,
-        -1_000_000,
-    );
-    finished(b"actual 640001", 3, 0, 0, 640_001, 1, 0);
-    finished(b"schedule 640001", 2, 640_001, 0, 0, 1, 0);
-    finished(
-        b"most actual at the lowest price",
-        1,
-        0,
-        LOWEST,
-        MOST,
-        LOWEST,
-        LOWEST,
-    );
-    finished(b"price -1000001", 3, 0, 0, 1, -1_000_001, 0);
-    finished(b"second price 1", 3, 0, 0, 1, 0, 1);
-    finished(b"no kind", 0, 0, 0, 0, 0, 0);
+fn exposure(quantities: usize, mwh: u64, priced: usize, price: i64) {
+    print(b"price exposure");
+    list(quantities, mwh, priced, price);
+    figure(list_exposure(&[mwh; 65], quantities, &[price; 65], priced));
 }
 
-fn bills() {
-    billed(b"bill 1000000000000", 1_000_000_000_000);
-    billed(b"bill 1000000000001", 1_000_000_000_001);
-    billed(b"bill -1000000000000", -1_000_000_000_000);
-    billed(b"bill -1000000000001", -1_000_000_000_001);
-    billed(b"lowest bill", LOWEST);
-    billed(b"highest bill", HIGHEST);
+fn posted(kind: u64, differential: u64, schedule: u64, price: i64, second: i64) {
+    whole(b"posted kind ", kind);
+    whole(b" differential ", differential);
+    whole(b" schedule ", schedule);
+    cents(b" prices ", price);
+    cents(b" and ", second);
+    figure(formulas::posted(kind, differential, false, schedule, price, second));
 }
+
+fn finished(
+    kind: u64,
+    schedule: u64,
+    day_ahead: i64,
+    posted_cents: i64,
+    actual: u64,
+    price: i64,
+    second: i64,
+) {
+    whole(b"finished kind ", kind);
+    whole(b" schedule ", schedule);
+    cents(b" Day-Ahead ", day_ahead);
+    cents(b" posted ", posted_cents);
+    whole(b" actual ", actual);
+    cents(b" prices ", price);
+    cents(b" and ", second);
+    figure(formulas::finished(
+        kind,
+        false,
+        schedule,
+        day_ahead,
+        posted_cents,
+        actual,
+        price,
+        second,
+    ));
+}
+
+fn delivery(kind: u64, mwh: u64, price: i64, second: i64) {
+    whole(b"delivery kind ", kind);
+    whole(b" MWh ", mwh);
+    cents(b" prices ", price);
+    cents(b" and ", second);
+    answered(formulas::delivery_refusal(kind, mwh, price, second), 0);
+}
+
+fn billed(amount: i64) {
+    cents(b"billed ", amount);
+    figure(formulas::billed(amount));
+}
+
+// ---- at the limits
 
 fn main() {
-    counts();
-    quantities_and_prices();
-    kinds_and_differentials();
-    posts();
-    finishes();
+    points();
+    point_values();
+    differentials();
+    kinds();
+    first_refusals();
+    largest_bids();
+    schedules();
+    second_prices();
+    largest_posts();
+    actuals();
+    posted_amounts();
+    largest_finishes();
+    deliveries();
     bills();
+}
+
+// The count of points, and lists of unequal length.
+fn points() {
+    bid(1, 0, 0, 0, 0, 0);
+    bid(1, 1, 0, 0, 0, 0);
+    bid(1, 0, 0, 1, 0, 0);
+    bid(1, 64, 1, 63, 1, 1);
+    bid(1, 63, 1, 64, 1, 1);
+    bid(1, 64, 1, 64, 1, 1);
+    bid(1, 65, 1, 65, 1, 1);
+    exposure(0, 0, 0, 0);
+    exposure(64, 1, 64, 1);
+    exposure(65, 1, 65, 1);
+    exposure(2, 1, 1, 1);
+}
+
+// The MWh and the price of a point.
+fn point_values() {
+    bid(1, 1, 10_000, 1, 0, 1);
+    bid(1, 1, 10_001, 1, 0, 1);
+    bid(2, 1, U64_MAX, 1, 0, 0);
+    bid(3, 1, 1, 1, 1_000_000, 0);
+    bid(3, 1, 1, 1, 1_000_001, 0);
+    bid(4, 1, 1, 1, -1_000_000, 0);
+    bid(4, 1, 1, 1, -1_000_001, 0);
+    bid(2, 1, 1, 1, I64_MIN, 0);
+    bid(2, 1, 1, 1, I64_MAX, 0);
+    exposure(1, 10_000, 1, 1_000_000);
+    exposure(1, 10_001, 1, 0);
+    exposure(1, 0, 1, 1_000_001);
+    exposure(1, U64_MAX, 1, I64_MIN);
+}
+
+// The differential, of a bid and of a post.
+fn differentials() {
+    bid(1, 1, 1, 1, 0, 1_000_000);
+    bid(1, 1, 1, 1, 0, 1_000_001);
+    bid(2, 1, 1, 1, 0, 1_000_000);
+    bid(2, 1, 1, 1, 0, 1_000_001);
+    bid(1, 1, 1, 1, 0, U64_MAX);
+    bid(3, 1, 1, 1, 0, 1);
+    bid(4, 1, 1, 1, 0, 1);
+    posted(1, 1_000_000, 1, 0, 0);
+    posted(1, 1_000_001, 1, 0, 0);
+    posted(2, 1_000_001, 1, 0, 0);
+    posted(4, 1, 1, 0, 0);
+}
+
+// The kind; posting is not for kind 3.
+fn kinds() {
+    bid(0, 1, 1, 1, 1, 0);
+    bid(5, 1, 1, 1, 1, 0);
+    bid(U64_MAX, 1, 1, 1, 1, 0);
+    posted(0, 0, 1, 1, 0);
+    posted(5, 0, 1, 1, 0);
+    finished(0, 1, 1, 1, 1, 1, 0);
+    finished(5, 1, 1, 1, 1, 1, 0);
+    posted(3, 0, 0, 0, 0);
+    posted(3, 0, 1, 1, 0);
+}
+
+// Where several apply, the first.
+fn first_refusals() {
+    bid(5, 0, U64_MAX, 65, I64_MIN, U64_MAX);
+    bid(3, 1, U64_MAX, 65, I64_MIN, U64_MAX);
+    bid(3, 1, U64_MAX, 1, I64_MIN, U64_MAX);
+    bid(3, 1, 1, 1, I64_MIN, U64_MAX);
+    bid(3, 1, 1, 1, 1, U64_MAX);
+    posted(5, U64_MAX, U64_MAX, I64_MIN, 1);
+    posted(3, U64_MAX, U64_MAX, I64_MIN, 1);
+    posted(3, U64_MAX, 1, 1, 1);
+    posted(3, 1, 1, 1, 0);
+    finished(5, U64_MAX, I64_MIN, -1, U64_MAX, I64_MIN, 1);
+    finished(3, 1, I64_MIN, -1, U64_MAX, I64_MIN, 1);
+    finished(3, 1, I64_MIN, -1, 1, 1, 0);
+    finished(3, 1, 1, -1, 1, 1, 0);
+}
+
+// The largest bid of each kind.
+fn largest_bids() {
+    bid(1, 64, 10_000, 64, 0, 1_000_000);
+    bid(2, 64, 10_000, 64, 1_000_000, 0);
+    bid(2, 64, 10_000, 64, -1, 1_000_000);
+    bid(3, 64, 10_000, 64, 1_000_000, 0);
+    bid(4, 64, 10_000, 64, -1_000_000, 0);
+    exposure(64, 10_000, 64, 1_000_000);
+}
+
+// The schedule and the prices of a post.
+fn schedules() {
+    posted(1, 1, 640_000, 0, 0);
+    posted(1, 1, 640_001, 0, 0);
+    posted(1, 1, U64_MAX, 0, 0);
+    posted(2, 0, 1, 1_000_000, 0);
+    posted(2, 0, 1, 1_000_001, 0);
+    posted(2, 0, 1, -1_000_000, 0);
+    posted(2, 0, 1, -1_000_001, 0);
+    posted(2, 0, 1, I64_MIN, 0);
+    posted(2, 0, 1, I64_MAX, 0);
+}
+
+// The second price, 0 but for a wheel.
+fn second_prices() {
+    posted(1, 0, 1, 1, 1);
+    posted(2, 0, 1, 1, -1);
+    posted(3, 0, 1, 1, 1);
+    posted(4, 0, 1, 0, -1_000_000);
+    posted(4, 0, 1, 0, -1_000_001);
+    posted(4, 0, 1, 0, 1_000_000);
+    posted(4, 0, 1, 0, 1_000_001);
+    posted(4, 0, 1, 0, I64_MIN);
+    finished(1, 1, 0, 0, 0, 1, 1);
+    finished(2, 1, 0, 0, 0, 1, -1);
+    finished(3, 1, 0, 0, 1, 1, 1);
+    finished(4, 1, 0, 0, 0, 0, 1_000_000);
+    finished(4, 1, 0, 0, 0, 0, 1_000_001);
+}
+
+// The largest posted amount of each kind.
+fn largest_posts() {
+    posted(1, 1_000_000, 640_000, 0, 0);
+    posted(2, 0, 640_000, 1_000_000, 0);
+    posted(4, 0, 640_000, 1_000_000, -1_000_000);
+    posted(4, 0, 640_000, -1_000_000, 1_000_000);
+}
+
+// The quantities and the prices of a finish.
+fn actuals() {
+    finished(2, 640_000, 0, 0, 640_000, 1, 0);
+    finished(2, 640_001, 0, 0, 0, 1, 0);
+    finished(2, 0, 0, 0, 640_001, 1, 0);
+    finished(2, U64_MAX, 0, 0, 0, 1, 0);
+    finished(2, 0, 0, 0, U64_MAX, 1, 0);
+    finished(1, 1, 1_000_000, 0, 1, 0, 0);
+    finished(1, 1, 1_000_001, 0, 1, 0, 0);
+    finished(1, 1, -1_000_000, 0, 1, 0, 0);
+    finished(1, 1, -1_000_001, 0, 1, 0, 0);
+    finished(3, 0, 0, 0, 1, 1_000_000, 0);
+    finished(3, 0, 0, 0, 1, 1_000_001, 0);
+    finished(3, 0, 0, 0, 1, -1_000_001, 0);
+    finished(3, 0, 0, 0, 1, I64_MIN, 0);
+}
+
+// The posted amount that a finish starts from.
+fn posted_amounts() {
+    finished(2, 0, 0, -1, 0, 0, 0);
+    finished(2, 0, 0, 640_000_000_000, 0, 0, 0);
+    finished(2, 0, 0, 640_000_000_001, 0, 0, 0);
+    finished(2, 0, 0, I64_MIN, 0, 0, 0);
+    finished(2, 0, 0, I64_MAX, 0, 0, 0);
+    finished(4, 0, 0, -1, 0, 0, 0);
+    finished(4, 0, 0, 20_000_000_000, 0, 0, 0);
+    finished(4, 0, 0, 20_000_000_001, 0, 0, 0);
+}
+
+// The largest finish of each kind, and the least.
+fn largest_finishes() {
+    finished(1, 640_000, -1_000_000, 0, 0, 1_000_000, 0);
+    finished(1, 640_000, 1_000_000, 0, 640_000, 0, 0);
+    finished(2, 0, 0, 640_000_000_000, 640_000, 1_000_000, 0);
+    finished(2, 640_000, 0, 0, 0, 1_000_000, 0);
+    finished(3, 0, 0, 0, 640_000, 1_000_000, 0);
+    finished(3, 0, 0, 0, 640_000, -1_000_000, 0);
+    finished(4, 0, 0, 20_000_000_000, 640_000, 1_000_000, -1_000_000);
+    finished(4, 640_000, 0, 20_000_000_000, 0, -1_000_000, 1_000_000);
+    finished(4, 640_000, 0, 0, 0, 1_000_000, -1_000_000);
+}
+
+// Refusals 6 and 7 by themselves.
+fn deliveries() {
+    delivery(1, 640_000, 1_000_000, 0);
+    delivery(1, 640_001, 1_000_001, 0);
+    delivery(1, 640_000, 1_000_001, 0);
+    delivery(3, 0, 0, 1);
+    delivery(4, 0, 0, 1);
+    delivery(4, U64_MAX, I64_MIN, I64_MAX);
+}
+
+// The bill.
+fn bills() {
+    billed(1_000_000_000_000);
+    billed(1_000_000_000_001);
+    billed(-1_000_000_000_000);
+    billed(-1_000_000_000_001);
+    billed(0);
+    billed(I64_MIN);
+    billed(I64_MAX);
 }

@@ -1,0 +1,366 @@
+//! The formulas at the limits of document 01's numbers and past them. What it
+//! prints is what the program `limits` must write.
+
+use reference::formulas;
+use reference::limits;
+use reference::refusal::Refusal;
+
+fn main() {
+    points();
+    point_values();
+    differentials();
+    kinds();
+    first_refusals();
+    largest_bids();
+    schedules();
+    second_prices();
+    largest_posts();
+    actuals();
+    posted_amounts();
+    largest_finishes();
+    deliveries();
+    bills();
+}
+
+/// The count of points, and lists of unequal length.
+fn points() {
+    bid(1, 0, 0, 0, 0, 0);
+    bid(1, 1, 0, 0, 0, 0);
+    bid(1, 0, 0, 1, 0, 0);
+    bid(1, 64, 1, 63, 1, 1);
+    bid(1, 63, 1, 64, 1, 1);
+    bid(1, 64, 1, 64, 1, 1);
+    bid(1, 65, 1, 65, 1, 1);
+    exposure(0, 0, 0, 0);
+    exposure(64, 1, 64, 1);
+    exposure(65, 1, 65, 1);
+    exposure(2, 1, 1, 1);
+}
+
+/// The MWh and the price of a point.
+fn point_values() {
+    bid(1, 1, 10_000, 1, 0, 1);
+    bid(1, 1, 10_001, 1, 0, 1);
+    bid(2, 1, u64::MAX, 1, 0, 0);
+    bid(3, 1, 1, 1, 1_000_000, 0);
+    bid(3, 1, 1, 1, 1_000_001, 0);
+    bid(4, 1, 1, 1, -1_000_000, 0);
+    bid(4, 1, 1, 1, -1_000_001, 0);
+    bid(2, 1, 1, 1, i64::MIN, 0);
+    bid(2, 1, 1, 1, i64::MAX, 0);
+    exposure(1, 10_000, 1, 1_000_000);
+    exposure(1, 10_001, 1, 0);
+    exposure(1, 0, 1, 1_000_001);
+    exposure(1, u64::MAX, 1, i64::MIN);
+}
+
+/// The differential, of a bid and of a post.
+fn differentials() {
+    bid(1, 1, 1, 1, 0, 1_000_000);
+    bid(1, 1, 1, 1, 0, 1_000_001);
+    bid(2, 1, 1, 1, 0, 1_000_000);
+    bid(2, 1, 1, 1, 0, 1_000_001);
+    bid(1, 1, 1, 1, 0, u64::MAX);
+    bid(3, 1, 1, 1, 0, 1);
+    bid(4, 1, 1, 1, 0, 1);
+    posted(1, 1_000_000, 1, 0, 0);
+    posted(1, 1_000_001, 1, 0, 0);
+    posted(2, 1_000_001, 1, 0, 0);
+    posted(4, 1, 1, 0, 0);
+}
+
+/// The kind; posting is not for kind 3.
+fn kinds() {
+    bid(0, 1, 1, 1, 1, 0);
+    bid(5, 1, 1, 1, 1, 0);
+    bid(u64::MAX, 1, 1, 1, 1, 0);
+    posted(0, 0, 1, 1, 0);
+    posted(5, 0, 1, 1, 0);
+    finished(0, 1, 1, 1, 1, 1, 0);
+    finished(5, 1, 1, 1, 1, 1, 0);
+    posted(3, 0, 0, 0, 0);
+    posted(3, 0, 1, 1, 0);
+}
+
+/// Where several apply, the first.
+fn first_refusals() {
+    bid(5, 0, u64::MAX, 65, i64::MIN, u64::MAX);
+    bid(3, 1, u64::MAX, 65, i64::MIN, u64::MAX);
+    bid(3, 1, u64::MAX, 1, i64::MIN, u64::MAX);
+    bid(3, 1, 1, 1, i64::MIN, u64::MAX);
+    bid(3, 1, 1, 1, 1, u64::MAX);
+    posted(5, u64::MAX, u64::MAX, i64::MIN, 1);
+    posted(3, u64::MAX, u64::MAX, i64::MIN, 1);
+    posted(3, u64::MAX, 1, 1, 1);
+    posted(3, 1, 1, 1, 0);
+    finished(5, u64::MAX, i64::MIN, -1, u64::MAX, i64::MIN, 1);
+    finished(3, 1, i64::MIN, -1, u64::MAX, i64::MIN, 1);
+    finished(3, 1, i64::MIN, -1, 1, 1, 0);
+    finished(3, 1, 1, -1, 1, 1, 0);
+}
+
+/// The largest bid of each kind.
+fn largest_bids() {
+    bid(1, 64, 10_000, 64, 0, 1_000_000);
+    bid(2, 64, 10_000, 64, 1_000_000, 0);
+    bid(2, 64, 10_000, 64, -1, 1_000_000);
+    bid(3, 64, 10_000, 64, 1_000_000, 0);
+    bid(4, 64, 10_000, 64, -1_000_000, 0);
+    exposure(64, 10_000, 64, 1_000_000);
+}
+
+/// The schedule and the prices of a post.
+fn schedules() {
+    posted(1, 1, 640_000, 0, 0);
+    posted(1, 1, 640_001, 0, 0);
+    posted(1, 1, u64::MAX, 0, 0);
+    posted(2, 0, 1, 1_000_000, 0);
+    posted(2, 0, 1, 1_000_001, 0);
+    posted(2, 0, 1, -1_000_000, 0);
+    posted(2, 0, 1, -1_000_001, 0);
+    posted(2, 0, 1, i64::MIN, 0);
+    posted(2, 0, 1, i64::MAX, 0);
+}
+
+/// The second price, 0 but for a wheel.
+fn second_prices() {
+    posted(1, 0, 1, 1, 1);
+    posted(2, 0, 1, 1, -1);
+    posted(3, 0, 1, 1, 1);
+    posted(4, 0, 1, 0, -1_000_000);
+    posted(4, 0, 1, 0, -1_000_001);
+    posted(4, 0, 1, 0, 1_000_000);
+    posted(4, 0, 1, 0, 1_000_001);
+    posted(4, 0, 1, 0, i64::MIN);
+    finished(1, 1, 0, 0, 0, 1, 1);
+    finished(2, 1, 0, 0, 0, 1, -1);
+    finished(3, 1, 0, 0, 1, 1, 1);
+    finished(4, 1, 0, 0, 0, 0, 1_000_000);
+    finished(4, 1, 0, 0, 0, 0, 1_000_001);
+}
+
+/// The largest posted amount of each kind.
+fn largest_posts() {
+    posted(1, 1_000_000, 640_000, 0, 0);
+    posted(2, 0, 640_000, 1_000_000, 0);
+    posted(4, 0, 640_000, 1_000_000, -1_000_000);
+    posted(4, 0, 640_000, -1_000_000, 1_000_000);
+}
+
+/// The quantities and the prices of a finish.
+fn actuals() {
+    finished(2, 640_000, 0, 0, 640_000, 1, 0);
+    finished(2, 640_001, 0, 0, 0, 1, 0);
+    finished(2, 0, 0, 0, 640_001, 1, 0);
+    finished(2, u64::MAX, 0, 0, 0, 1, 0);
+    finished(2, 0, 0, 0, u64::MAX, 1, 0);
+    finished(1, 1, 1_000_000, 0, 1, 0, 0);
+    finished(1, 1, 1_000_001, 0, 1, 0, 0);
+    finished(1, 1, -1_000_000, 0, 1, 0, 0);
+    finished(1, 1, -1_000_001, 0, 1, 0, 0);
+    finished(3, 0, 0, 0, 1, 1_000_000, 0);
+    finished(3, 0, 0, 0, 1, 1_000_001, 0);
+    finished(3, 0, 0, 0, 1, -1_000_001, 0);
+    finished(3, 0, 0, 0, 1, i64::MIN, 0);
+}
+
+/// The posted amount that a finish starts from.
+fn posted_amounts() {
+    finished(2, 0, 0, -1, 0, 0, 0);
+    finished(2, 0, 0, 640_000_000_000, 0, 0, 0);
+    finished(2, 0, 0, 640_000_000_001, 0, 0, 0);
+    finished(2, 0, 0, i64::MIN, 0, 0, 0);
+    finished(2, 0, 0, i64::MAX, 0, 0, 0);
+    finished(4, 0, 0, -1, 0, 0, 0);
+    finished(4, 0, 0, 20_000_000_000, 0, 0, 0);
+    finished(4, 0, 0, 20_000_000_001, 0, 0, 0);
+}
+
+/// The largest finish of each kind, and the least.
+fn largest_finishes() {
+    finished(1, 640_000, -1_000_000, 0, 0, 1_000_000, 0);
+    finished(1, 640_000, 1_000_000, 0, 640_000, 0, 0);
+    finished(2, 0, 0, 640_000_000_000, 640_000, 1_000_000, 0);
+    finished(2, 640_000, 0, 0, 0, 1_000_000, 0);
+    finished(3, 0, 0, 0, 640_000, 1_000_000, 0);
+    finished(3, 0, 0, 0, 640_000, -1_000_000, 0);
+    finished(4, 0, 0, 20_000_000_000, 640_000, 1_000_000, -1_000_000);
+    finished(4, 640_000, 0, 20_000_000_000, 0, -1_000_000, 1_000_000);
+    finished(4, 640_000, 0, 0, 0, 1_000_000, -1_000_000);
+}
+
+/// Refusals 6 and 7 by themselves.
+fn deliveries() {
+    delivery(1, 640_000, 1_000_000, 0);
+    delivery(1, 640_001, 1_000_001, 0);
+    delivery(1, 640_000, 1_000_001, 0);
+    delivery(3, 0, 0, 1);
+    delivery(4, 0, 0, 1);
+    delivery(4, u64::MAX, i64::MIN, i64::MAX);
+}
+
+/// The bill.
+fn bills() {
+    billed(1_000_000_000_000);
+    billed(1_000_000_000_001);
+    billed(-1_000_000_000_000);
+    billed(-1_000_000_000_001);
+    billed(0);
+    billed(i64::MIN);
+    billed(i64::MAX);
+}
+
+fn bid(kind: u64, quantities: usize, mwh: u64, priced: usize, price: i64, differential: u64) {
+    let (list, prices) = (vec![mwh; quantities], vec![price; priced]);
+    print!("bid kind {kind} with {quantities} times {mwh} MWh and {priced} times price {price}");
+    print!(" differential {differential}");
+    answered(bid_amount(kind, &list, &prices, differential));
+}
+
+fn exposure(quantities: usize, mwh: u64, priced: usize, price: i64) {
+    let (list, prices) = (vec![mwh; quantities], vec![price; priced]);
+    print!("price exposure with {quantities} times {mwh} MWh and {priced} times price {price}");
+    let refusal = check_points(&list, &prices);
+    answered(refusal.map(|()| formulas::price_exposure(&list, &prices)));
+}
+
+fn posted(kind: u64, differential: u64, schedule: u64, price: i64, second: i64) {
+    print!("posted kind {kind} differential {differential} schedule {schedule}");
+    print!(" prices {price} and {second}");
+    answered(posted_amount(kind, differential, schedule, price, second));
+}
+
+fn finished(
+    kind: u64,
+    schedule: u64,
+    day_ahead: i64,
+    posted: i64,
+    actual: u64,
+    price: i64,
+    second: i64,
+) {
+    print!("finished kind {kind} schedule {schedule} Day-Ahead {day_ahead} posted {posted}");
+    print!(" actual {actual} prices {price} and {second}");
+    let record = (schedule, day_ahead, posted);
+    answered(finished_amount(kind, record, actual, price, second));
+}
+
+fn delivery(kind: u64, mwh: u64, price: i64, second: i64) {
+    print!("delivery kind {kind} MWh {mwh} prices {price} and {second}");
+    let quantity = require(limits::MWH.contains(&mwh), Refusal::Quantity);
+    let refusal = quantity.and_then(|()| check_prices(kind, price, second));
+    answered(refusal.map(|()| 0));
+}
+
+fn billed(amount: i64) {
+    print!("billed {amount}");
+    let refusal = require(limits::BILL.contains(&amount), Refusal::Amount);
+    answered(refusal.map(|()| i128::from(amount)));
+}
+
+fn answered(amount: Result<i128, Refusal>) {
+    let number = amount.err().map_or(0, Refusal::number);
+    println!(": {number} {}", amount.unwrap_or(0));
+}
+
+/// Refusals 2 and 5 to 8, then the bid.
+fn bid_amount(kind: u64, mwh: &[u64], prices: &[i64], differential: u64) -> Result<i128, Refusal> {
+    check_kind(kind)?;
+    check_points(mwh, prices)?;
+    check_differential(kind, differential)?;
+    let differential = i128::from(differential);
+    Ok(match kind {
+        1 => formulas::import_bid(formulas::largest_mwh(mwh), differential, false),
+        2 => formulas::export_bid(mwh, prices, differential),
+        3 => formulas::hour_ahead_export_bid(mwh, prices),
+        _ => formulas::wheel_bid(mwh, prices),
+    })
+}
+
+/// Refusals 2, 6, 7, 8 and 12, then the posted amount.
+fn posted_amount(
+    kind: u64,
+    differential: u64,
+    schedule: u64,
+    price: i64,
+    second: i64,
+) -> Result<i128, Refusal> {
+    check_kind(kind)?;
+    require(limits::MWH.contains(&schedule), Refusal::Quantity)?;
+    check_prices(kind, price, second)?;
+    check_differential(kind, differential)?;
+    require(kind != 3, Refusal::WrongStage)?;
+    let (schedule, differential) = (i128::from(schedule), i128::from(differential));
+    let (price, second) = (i128::from(price), i128::from(second));
+    Ok(match kind {
+        1 => formulas::import_posted(schedule, differential, false),
+        2 => formulas::export_posted(schedule, price, differential),
+        _ => formulas::wheel_posted(schedule, formulas::difference(price, second)),
+    })
+}
+
+/// Refusals 2, 6, 7 and 9, then the finished amount. The record's schedule,
+/// Day-Ahead price and posted amount come together.
+fn finished_amount(
+    kind: u64,
+    (schedule, day_ahead, posted): (u64, i64, i64),
+    actual: u64,
+    price: i64,
+    second: i64,
+) -> Result<i128, Refusal> {
+    check_kind(kind)?;
+    require(limits::MWH.contains(&schedule), Refusal::Quantity)?;
+    require(limits::MWH.contains(&actual), Refusal::Quantity)?;
+    require(limits::PRICE.contains(&day_ahead), Refusal::Price)?;
+    check_prices(kind, price, second)?;
+    let posted_range = match kind {
+        4 => limits::EARLY_WHEEL_REQUIREMENT,
+        _ => limits::EARLY_REQUIREMENT,
+    };
+    require(posted_range.contains(&posted), Refusal::Amount)?;
+    let (schedule, actual) = (i128::from(schedule), i128::from(actual));
+    let (day_ahead, posted) = (i128::from(day_ahead), i128::from(posted));
+    let (price, second) = (i128::from(price), i128::from(second));
+    let difference = formulas::difference(price, second);
+    Ok(match kind {
+        1 => formulas::import_finished(schedule, actual, day_ahead, price, false),
+        2 => formulas::export_finished(posted, schedule, actual, price),
+        3 => formulas::hour_ahead_export_finished(actual, price),
+        _ => formulas::wheel_finished(posted, schedule, actual, difference),
+    })
+}
+
+fn require(holds: bool, refusal: Refusal) -> Result<(), Refusal> {
+    if holds {
+        Ok(())
+    } else {
+        Err(refusal)
+    }
+}
+
+fn check_kind(kind: u64) -> Result<(), Refusal> {
+    require((1..=4).contains(&kind), Refusal::Kind)
+}
+
+fn check_points(mwh: &[u64], prices: &[i64]) -> Result<(), Refusal> {
+    let counted = limits::POINTS.contains(&mwh.len()) && mwh.len() == prices.len();
+    require(counted, Refusal::Points)?;
+    let quantities_fit = mwh.iter().all(|mwh| limits::POINT_MWH.contains(mwh));
+    require(quantities_fit, Refusal::Quantity)?;
+    let prices_fit = prices.iter().all(|price| limits::PRICE.contains(price));
+    require(prices_fit, Refusal::Price)
+}
+
+/// "Kinds 1 to 3 use one price in post and finish, and their second must be 0."
+fn check_prices(kind: u64, price: i64, second: i64) -> Result<(), Refusal> {
+    let in_range = limits::PRICE.contains(&price) && limits::PRICE.contains(&second);
+    require(in_range && (kind == 4 || second == 0), Refusal::Price)
+}
+
+fn check_differential(kind: u64, differential: u64) -> Result<(), Refusal> {
+    let range = match kind {
+        1 | 2 => limits::DIFFERENTIAL,
+        _ => limits::NO_DIFFERENTIAL,
+    };
+    require(range.contains(&differential), Refusal::Differential)
+}
