@@ -1,0 +1,895 @@
+//! The run that docs/DRILL.md writes down, over the reference; the proved
+//! drill must print the same, byte for byte.
+//!
+//! Standard input has three numbers: how many turns to run, the first turn
+//! that has a line, and the turn at which such lines end.
+
+use std::fmt::Write as _;
+use std::io::{Read, Write as _};
+
+use reference::book::{
+    Answer, Bill, Book, Finish, Key, Message, Opening, Payment, Posting, Record, Revision, Support,
+    Withdrawal,
+};
+use reference::chart::{self, Table};
+use reference::history::{self, Window};
+
+const MODULUS: u64 = 2_147_483_647;
+const MULTIPLIER: u64 = 48_271;
+const MOST_SUPPORT: i64 = 1_000_000_000_000_000;
+const PLACES: usize = 256;
+const ROWS: usize = 300;
+
+const OPEN: u64 = 1;
+const REVISE: u64 = 2;
+const WITHDRAW: u64 = 3;
+const POST: u64 = 4;
+const FINISH: u64 = 5;
+const BILL: u64 = 6;
+const PAY: u64 = 7;
+const SUPPORT: u64 = 8;
+
+fn next(x: u64) -> u64 {
+    x * MULTIPLIER % MODULUS
+}
+
+/// The running digest.
+struct Digest(u64);
+
+impl Digest {
+    fn mix(&mut self, value: u64) {
+        self.0 = (self.0 * MULTIPLIER + value % MODULUS) % MODULUS;
+    }
+
+    fn mix_cents(&mut self, cents: i64) {
+        self.mix(u64::from(cents < 0));
+        self.mix(cents.unsigned_abs());
+    }
+
+    fn mix_answer(&mut self, answer: &Answer) {
+        self.mix(answer.number());
+        self.mix_cents(answer.requirement);
+        self.mix_cents(answer.held);
+        self.mix_cents(answer.net_owed);
+    }
+
+    fn mix_book(&mut self, book: &Book) {
+        self.mix_cents(book.support);
+        for record in &book.records {
+            self.mix(record.key.kind);
+            self.mix(record.key.path);
+            self.mix(record.key.hour);
+            self.mix(record.stage);
+            self.mix(record.bid_mwh);
+            self.mix(record.differential);
+            self.mix(u64::from(record.exempt));
+            self.mix(record.schedule);
+            self.mix_cents(record.day_ahead_price);
+            self.mix_cents(record.requirement);
+        }
+    }
+}
+
+/// The 23 draws of a turn, in their order.
+struct Draws {
+    message: u64,
+    place: u64,
+    source: u64,
+    kind: u64,
+    path: u64,
+    hour: u64,
+    faults: [u64; 2],
+    quantity: u64,
+    price: u64,
+    second_price: u64,
+    differential: u64,
+    exempt: u64,
+    amount: u64,
+    count: u64,
+    points: u64,
+    tight: u64,
+    bids: u64,
+    mwh: u64,
+    loss: u64,
+    look: u64,
+    day: u64,
+    last: u64,
+}
+
+impl Draws {
+    fn of(seed: u64) -> Draws {
+        let mut x = seed;
+        let mut draw = || {
+            x = next(x);
+            x
+        };
+        Draws {
+            message: draw(),
+            place: draw(),
+            source: draw(),
+            kind: draw(),
+            path: draw(),
+            hour: draw(),
+            faults: [draw(), draw()],
+            quantity: draw(),
+            price: draw(),
+            second_price: draw(),
+            differential: draw(),
+            exempt: draw(),
+            amount: draw(),
+            count: draw(),
+            points: draw(),
+            tight: draw(),
+            bids: draw(),
+            mwh: draw(),
+            loss: draw(),
+            look: draw(),
+            day: draw(),
+            last: draw(),
+        }
+    }
+
+    fn has(&self, fault: u64) -> bool {
+        self.faults.iter().any(|draw| draw % 32 == fault)
+    }
+
+    fn key_is_from_place(&self, message: u64) -> bool {
+        (message == OPEN) == (self.source % 8 == 0)
+    }
+}
+
+/// One of eight, by a draw.
+fn one_of<T: Copy>(row: &[T; 8], w: u64) -> T {
+    row[(w % 8) as usize]
+}
+
+const PATHS: [u64; 8] = [1, 2, 3, 4, 500, 997, 998, 999];
+const POINT_MWH: [u64; 8] = [0, 1, 27, 61, 100, 500, 9_999, 10_000];
+const DIFFERENTIALS: [u64; 8] = [0, 1, 1_200, 1_400, 4_000, 6_000, 999_999, 1_000_000];
+const TEST_BIDS: [u64; 8] = [0, 1, 49, 50, 51, 100, 1_000_000_000, 1_000_000_001];
+const TEST_MWH: [u64; 8] = [0, 1, 99, 100, 101, 400, 1_000_000_000, 1_000_000_001];
+const TEST_LOSS: [u64; 8] = [0, 1, 24, 25, 26, 100, 1_000_000_000, 1_000_000_001];
+const KINDS_OUT: [u64; 8] = [0, 5, 6, 7, 8, 9, 10, u64::MAX];
+const PATHS_OUT: [u64; 8] = [0, 1_000, 1_001, 1_002, 2_000, 3_000, 4_000, u64::MAX];
+const HOURS_OUT: [u64; 8] = [
+    1_000_000, 1_000_001, 1_000_002, 2_000_000, 3_000_000, 4_000_000, 5_000_000, u64::MAX,
+];
+const POINT_MWH_OUT: [u64; 8] = [
+    10_001, 10_002, 10_003, 20_000, 30_000, 640_000, 640_001, u64::MAX,
+];
+const QUANTITIES_OUT: [u64; 8] = [
+    640_001, 640_002, 640_003, 700_000, 800_000, 900_000, 1_000_000, u64::MAX,
+];
+const DIFFERENTIALS_OUT: [u64; 8] = [
+    1_000_001, 1_000_002, 1_000_003, 2_000_000, 3_000_000, 4_000_000, 5_000_000, u64::MAX,
+];
+const PRICES: [i64; 8] = [0, 1, -1, 4_000, 6_000, 999_999, 1_000_000, -1_000_000];
+const PRICES_OUT: [i64; 8] = [
+    1_000_001, -1_000_001, 1_000_002, -1_000_002, 2_000_000, -2_000_000, i64::MAX, i64::MIN,
+];
+const TRILLION: i64 = 1_000_000_000_000;
+const BILLS: [i64; 8] = [0, 1, -1, 49_999, 50_000, 100_000, TRILLION, -TRILLION];
+const BILLS_OUT: [i64; 8] = [
+    TRILLION + 1, -TRILLION - 1, TRILLION + 2, -TRILLION - 2, 2 * TRILLION, -2 * TRILLION,
+    i64::MAX, i64::MIN,
+];
+const SUPPORTS: [i64; 8] = [
+    0, 1, 99_999, 100_000, TRILLION, 500 * TRILLION, MOST_SUPPORT - 1, MOST_SUPPORT,
+];
+const SUPPORTS_OUT: [i64; 8] = [
+    -1, -2, -100_000, MOST_SUPPORT + 1, MOST_SUPPORT + 2, 2 * MOST_SUPPORT, i64::MAX, i64::MIN,
+];
+
+fn hour(w: u64) -> u64 {
+    w % 8 + if w / 8 % 2 == 0 { 0 } else { 999_992 }
+}
+
+fn point_mwh(w: u64) -> u64 {
+    if w % 2 == 0 {
+        w / 2 % 10_001
+    } else {
+        one_of(&POINT_MWH, w / 2)
+    }
+}
+
+/// Any price, or one of the row.
+fn price_or(row: &[i64; 8], w: u64) -> i64 {
+    if w % 2 == 0 {
+        (w / 2 % 2_000_001) as i64 - 1_000_000
+    } else {
+        one_of(row, w / 2)
+    }
+}
+
+/// One less than this many cents, as many, or one more; never below 0.
+fn near(cents: u64, w: u64) -> i64 {
+    let sum = (cents % 2_000_000_000_000_001 + w % 3) as i64;
+    (sum - 1).max(0)
+}
+
+fn doubled(cents: i64) -> u64 {
+    cents.unsigned_abs() % 1_000_000_000_000_001 * 2
+}
+
+/// What a turn asks: every value that its message could be made of.
+#[derive(Clone, Copy)]
+struct Ask {
+    message: u64,
+    key: Key,
+    differential: u64,
+    exempt: bool,
+    quantity: u64,
+    first_price: i64,
+    second_price: i64,
+    cents: i64,
+}
+
+impl Ask {
+    fn message(&self) -> Message {
+        let Ask { key, .. } = *self;
+        match self.message {
+            OPEN => Message::Open(Opening {
+                key,
+                differential: self.differential,
+                exempt: self.exempt,
+            }),
+            REVISE => Message::Revise(Revision {
+                key,
+                differential: self.differential,
+                exempt: self.exempt,
+            }),
+            WITHDRAW => Message::Withdraw(Withdrawal { key }),
+            POST => Message::Post(Posting {
+                key,
+                schedule: self.quantity,
+                first_price: self.first_price,
+                second_price: self.second_price,
+            }),
+            FINISH => Message::Finish(Finish {
+                key,
+                actual: self.quantity,
+                first_price: self.first_price,
+                second_price: self.second_price,
+            }),
+            BILL => Message::Bill(Bill {
+                key,
+                amount: self.cents,
+            }),
+            PAY => Message::Pay(Payment { key }),
+            _ => Message::Support(Support { amount: self.cents }),
+        }
+    }
+}
+
+/// The message that takes a record to its next stage; of a free place, open.
+fn onward(record: &Record) -> u64 {
+    match record.stage {
+        0 => OPEN,
+        1 if record.key.kind == 3 => FINISH,
+        1 => POST,
+        2 => FINISH,
+        3 => BILL,
+        _ => PAY,
+    }
+}
+
+/// How far the run has come.
+struct Run {
+    book: Book,
+    seed: u64,
+    digest: Digest,
+    turn: u64,
+    messages: u64,
+    open: u64,
+    most_open: u64,
+    again: bool,
+    suspended: bool,
+    held: i64,
+    net_owed: i64,
+    rows: [u64; ROWS],
+}
+
+impl Run {
+    /// 0 fills the book, 1 takes its records on, 2 empties it to a few.
+    fn season(&self) -> u64 {
+        match self.turn / 1_024 % 16 {
+            0..=3 => 0,
+            8..=13 => 2,
+            _ => 1,
+        }
+    }
+
+    fn count(&mut self, applies: bool, row: u64) {
+        if applies {
+            self.rows[row as usize] += 1;
+        }
+    }
+
+    /// A place of the book: one of the first so many, or any.
+    fn place_of(&self, draws: &Draws) -> usize {
+        let w = draws.place / 2;
+        let place = if draws.place % 2 == 0 {
+            w % (self.open + 1)
+        } else {
+            w
+        };
+        (place % PLACES as u64) as usize
+    }
+
+    fn message_of(&self, draws: &Draws, record: &Record) -> u64 {
+        let any = draws.message / 2 % 8 + 1;
+        let season = self.season();
+        let many = season == 2 && self.open >= 3;
+        if draws.message % 2 == 0 && !(many && any == OPEN) {
+            return any;
+        }
+        match (season, record.stage) {
+            (0, _) => OPEN,
+            (2, 0) if many => SUPPORT,
+            (2, 1) => WITHDRAW,
+            _ => onward(record),
+        }
+    }
+
+    fn key_of(&self, draws: &Draws, record: &Record, message: u64) -> Key {
+        let mut key = if draws.key_is_from_place(message) {
+            record.key
+        } else {
+            Key {
+                kind: draws.kind % 4 + 1,
+                path: one_of(&PATHS, draws.path),
+                hour: hour(draws.hour),
+            }
+        };
+        if draws.has(2) {
+            key.kind = one_of(&KINDS_OUT, draws.kind);
+        }
+        if draws.has(3) {
+            key.path = one_of(&PATHS_OUT, draws.path);
+        }
+        if draws.has(4) {
+            key.hour = one_of(&HOURS_OUT, draws.hour);
+        }
+        key
+    }
+
+    fn ask_of(&self, draws: &Draws, record: &Record) -> Ask {
+        let message = self.message_of(draws, record);
+        let key = self.key_of(draws, record, message);
+        Ask {
+            message,
+            key,
+            differential: differential_of(draws, key.kind),
+            exempt: draws.exempt % 4 == 0,
+            quantity: quantity_of(draws, record),
+            first_price: first_price_of(draws, key.kind),
+            second_price: second_price_of(draws, key.kind),
+            cents: self.cents_of(draws, message),
+        }
+    }
+
+    fn cents_of(&self, draws: &Draws, message: u64) -> i64 {
+        let w = draws.amount;
+        match (message == BILL, draws.has(9)) {
+            (true, true) => one_of(&BILLS_OUT, w),
+            (true, false) => price_or(&BILLS, w),
+            (false, true) => one_of(&SUPPORTS_OUT, w),
+            (false, false) => self.support_of(w),
+        }
+    }
+
+    fn support_of(&self, w: u64) -> i64 {
+        let filling = self.season() == 0;
+        let around_held = near(self.held.unsigned_abs(), w / 8);
+        match w % 8 {
+            0 => around_held,
+            1 => one_of(&SUPPORTS, w / 8),
+            2 if !filling => around_held,
+            3 | 4 if !filling => near(doubled(self.net_owed), w / 8),
+            _ => MOST_SUPPORT,
+        }
+    }
+
+    fn is_tight(&self, draws: &Draws, message: u64) -> bool {
+        let w = draws.tight;
+        let often_enough = w % 8 == 0 && (self.season() != 0 || w / 8 % 8 == 0);
+        (message == OPEN || message == REVISE) && !self.again && often_enough
+    }
+
+    /// What the message would leave held with the largest support.
+    fn trial_held(&self, ask: &Ask, mwh: &[u64], prices: &[i64]) -> i64 {
+        let mut aside = self.book.clone();
+        aside.support = MOST_SUPPORT;
+        aside.apply(ask.message(), mwh, prices).held
+    }
+
+    /// One more message, answered.
+    fn answered(&mut self, answer: &Answer) {
+        self.messages += 1;
+        self.digest.mix_answer(answer);
+    }
+
+    fn begin(&mut self, support: i64) {
+        let (book, answer) = Book::fresh(support);
+        self.count(answer.number() == 0, 197);
+        self.count(answer.number() == 9, 198);
+        self.answered(&answer);
+        self.digest.mix_cents(book.support);
+        self.book = book;
+    }
+
+    fn import_test(&mut self, draws: &Draws) {
+        let three = Window {
+            bids: one_of(&TEST_BIDS, draws.bids),
+            mwh: one_of(&TEST_MWH, draws.mwh),
+            loss: one_of(&TEST_LOSS, draws.loss),
+        };
+        let six = Window {
+            bids: longer(three.bids, draws.bids / 8),
+            mwh: longer(three.mwh, draws.mwh / 8),
+            loss: longer(three.loss, draws.loss / 8),
+        };
+        let (number, exempt) = match history::import_test(three, six) {
+            Ok(exempt) => (0, exempt),
+            Err(refusal) => (refusal.number(), false),
+        };
+        self.count(exempt, 199);
+        self.count(number == 0 && !exempt, 200);
+        self.count(number == 17, 201);
+        self.digest.mix(number);
+        self.digest.mix(u64::from(exempt));
+    }
+
+    fn look_up(&mut self, draws: &Draws) {
+        let w = draws.look;
+        let table = if w % 2 == 0 {
+            Table::Import
+        } else {
+            Table::Export
+        };
+        let (bus, month) = (w / 2 % 12, w / 24 % 14);
+        let (day_type, hour) = (draws.day % 3, draws.day / 3 % 25);
+        let (number, group, cents) = match chart::lookup(table, bus, month, day_type, hour) {
+            Ok(entry) => (0, entry.group, entry.differential),
+            Err(refusal) => (refusal.number(), 0, 0),
+        };
+        self.count(number == 0, 202);
+        self.count(number == 18, 203);
+        self.digest.mix(number);
+        self.digest.mix(group);
+        self.digest.mix(cents);
+    }
+
+    /// The turn's message to a book set aside and changed.
+    fn probe(&mut self, draws: &Draws, ask: &Ask, mwh: &[u64], prices: &[i64]) {
+        let change = self.turn / 8 % CHANGES;
+        let mut aside = changed(&self.book, change, draws.day / 16);
+        let sound = aside.is_sound();
+        let answer = aside.apply(ask.message(), mwh, prices);
+        let refused = answer.number() == 1;
+        let row = 216 + field_of(change) * 2;
+        self.count(sound && !refused, row);
+        self.count(!sound && refused, row + 1);
+        if refused {
+            self.count_answer(draws, ask.message, 1);
+        }
+        self.answered(&answer);
+        self.digest.mix_book(&aside);
+        self.digest.mix(u64::from(sound));
+    }
+
+    /// All that the book holds, and what a screen asks of it.
+    fn show(&mut self) {
+        let book = &self.book;
+        self.digest.mix_book(book);
+        self.digest.mix_cents(i64::try_from(book.held()).expect("a sound book's held fits"));
+        self.digest.mix_cents(i64::try_from(book.net_owed()).expect("a sound book's net owed fits"));
+        self.digest.mix(u64::from(book.is_suspended()));
+        self.digest.mix(u64::from(book.is_sound()));
+    }
+
+    /// The rows of a message's answer, and of a later fault under it.
+    fn count_answer(&mut self, draws: &Draws, message: u64, number: u64) {
+        self.count(true, message * 17 + number);
+        let faulty = (1..=7).contains(&number);
+        self.count(faulty && has_later(draws, message, number), 184 + number);
+    }
+
+    /// Two refusals at once, of those that the book's state brings.
+    fn count_two(&mut self, message: u64, number: u64, above: bool) {
+        let full = self.open == 256;
+        let short = self.book.support < self.held;
+        let opens = message == OPEN;
+        let row = match number {
+            10 if full => 192,
+            12 if message == POST && above => 193,
+            14 if opens && full => 194,
+            14 if opens && short => 195,
+            15 if short => 196,
+            _ => return,
+        };
+        self.count(true, row);
+    }
+
+    fn count_edges(&mut self, draws: &Draws, message: u64, answer: &Answer) {
+        let support = self.book.support;
+        let owes = answer.net_owed >= 0;
+        let twice = doubled(answer.net_owed) as i64;
+        let one_short = self.again && draws.tight / 64 % 3 == 0;
+        let row = match (answer.number(), message) {
+            (0, OPEN) if owes && twice + 1 == support => 215,
+            (0, OPEN) if answer.held == support => 210,
+            (0, REVISE) if answer.held == support => 212,
+            (14, _) if owes && twice == support => 214,
+            (16, OPEN) if one_short => 211,
+            (16, REVISE) if one_short => 213,
+            _ => return,
+        };
+        self.count(true, row);
+    }
+
+    fn count_suspension(&mut self, message: u64, number: u64) {
+        let on = number == 14 && !self.suspended;
+        let off = number == 0 && message <= REVISE && self.suspended;
+        self.count(on, 204);
+        self.count(off, 205);
+        self.suspended = (self.suspended || on) && !off;
+    }
+
+    fn count_places(&mut self, message: u64, number: u64) {
+        let opens = message == OPEN && number == 0;
+        let frees = (message == WITHDRAW || message == PAY) && number == 0;
+        match self.open {
+            0 => self.count(true, 207),
+            255 => self.count(true, 208),
+            256 => self.count(true, 209),
+            open => self.count(opens && open < self.most_open, 206),
+        }
+        self.open = self.open + u64::from(opens) - u64::from(frees);
+        self.most_open = self.most_open.max(self.open);
+    }
+
+    fn turn(&mut self, window: &std::ops::Range<u64>, out: &mut String) {
+        let draws = Draws::of(self.seed);
+        let (mwh, prices) = (mwh_points(&draws), price_points(&draws));
+        let record = self.book.records[self.place_of(&draws)];
+        let mut ask = self.ask_of(&draws, &record);
+        let tight = self.is_tight(&draws, ask.message);
+        if tight {
+            let held = self.trial_held(&ask, &mwh, &prices);
+            ask.message = SUPPORT;
+            ask.cents = near(held.unsigned_abs(), draws.tight / 64);
+        }
+        self.import_test(&draws);
+        self.look_up(&draws);
+        if self.turn % 8 == 7 {
+            self.probe(&draws, &ask, &mwh, &prices);
+        } else if self.turn % 64 == 0 {
+            self.show();
+        }
+        let mut next = self.book.clone();
+        let answer = next.apply(ask.message(), &mwh, &prices);
+        let above = draws.key_is_from_place(ask.message) && record.bid_mwh < ask.quantity;
+        let number = answer.number();
+        self.count_answer(&draws, ask.message, number);
+        self.count(
+            number == 0 && ask.message < SUPPORT,
+            150 + ask.message * 4 + ask.key.kind % 5,
+        );
+        self.count_two(ask.message, number, above);
+        self.count_edges(&draws, ask.message, &answer);
+        self.answered(&answer);
+        self.count_suspension(ask.message, number);
+        self.count_places(ask.message, number);
+        self.held = answer.held;
+        self.net_owed = answer.net_owed;
+        self.book = next;
+        if window.contains(&self.turn) || self.turn % 4_096 == 4_095 {
+            self.print_turn(out, &ask, mwh.len(), prices.len(), &answer);
+        }
+        self.again = tight;
+        if !tight {
+            self.seed = draws.last;
+        }
+        self.turn += 1;
+    }
+
+    fn print_turn(&self, out: &mut String, ask: &Ask, mwh: usize, prices: usize, answer: &Answer) {
+        let _ = writeln!(
+            out,
+            "turn {} {} {} {} {} {} {} {} {} {} {} {} {} : {} {} {} {} {}",
+            self.turn,
+            ask.message,
+            ask.key.kind,
+            ask.key.path,
+            ask.key.hour,
+            ask.differential,
+            u64::from(ask.exempt),
+            ask.quantity,
+            ask.first_price,
+            ask.second_price,
+            ask.cents,
+            mwh,
+            prices,
+            answer.number(),
+            answer.requirement,
+            answer.held,
+            answer.net_owed,
+            self.digest.0,
+        );
+    }
+}
+
+fn differential_of(draws: &Draws, kind: u64) -> u64 {
+    let w = draws.differential;
+    match (kind <= 2, draws.has(8)) {
+        (true, true) => one_of(&DIFFERENTIALS_OUT, w),
+        (true, false) => one_of(&DIFFERENTIALS, w),
+        (false, fault) => u64::from(fault),
+    }
+}
+
+fn quantity_of(draws: &Draws, record: &Record) -> u64 {
+    let w = draws.quantity;
+    match w % 8 {
+        _ if draws.has(6) => one_of(&QUANTITIES_OUT, w),
+        0 => 0,
+        1..=3 => record.bid_mwh,
+        4 => record.bid_mwh % 640_000 + 1,
+        5 => 640_000,
+        6 => record.schedule,
+        _ => w / 8 % 10_001,
+    }
+}
+
+fn first_price_of(draws: &Draws, kind: u64) -> i64 {
+    let which = draws.second_price % 3;
+    if draws.has(7) && (which == 0 || which == 2 && kind == 4) {
+        one_of(&PRICES_OUT, draws.price)
+    } else {
+        price_or(&PRICES, draws.price)
+    }
+}
+
+fn second_price_of(draws: &Draws, kind: u64) -> i64 {
+    let w = draws.second_price;
+    if draws.has(7) && w % 3 == 1 {
+        one_of(&PRICES_OUT, w)
+    } else if kind == 4 {
+        price_or(&PRICES, w)
+    } else {
+        i64::from(draws.has(7) && w % 3 == 2)
+    }
+}
+
+fn usual_count(w: u64) -> usize {
+    match w % 16 {
+        0 => 64,
+        1 => 63,
+        _ => (w / 16 % 6 + 1) as usize,
+    }
+}
+
+/// The lengths of the two lists.
+fn counts_of(draws: &Draws) -> (usize, usize) {
+    let w = draws.count;
+    let n = usual_count(w);
+    match w % 4 {
+        _ if !draws.has(5) => (n, n),
+        0 => (0, 0),
+        1 => (65, 65),
+        2 => (n, n + 1),
+        _ => (n, n / 2),
+    }
+}
+
+/// The index of the faulty point of a list, at its start or at its end.
+fn faulty_point(draws: &Draws, n: usize) -> usize {
+    if draws.count / 256 % 2 == 0 {
+        0
+    } else {
+        n - 1
+    }
+}
+
+fn mwh_points(draws: &Draws) -> Vec<u64> {
+    let (n, _) = counts_of(draws);
+    let mut x = draws.points;
+    let mut list: Vec<u64> = (0..n)
+        .map(|_| {
+            x = next(x);
+            point_mwh(x)
+        })
+        .collect();
+    if draws.has(6) && n > 0 {
+        list[faulty_point(draws, n)] = one_of(&POINT_MWH_OUT, draws.count / 512);
+    }
+    list
+}
+
+fn price_points(draws: &Draws) -> Vec<i64> {
+    let (_, n) = counts_of(draws);
+    let mut digest = Digest(draws.points);
+    digest.mix(7);
+    let mut x = digest.0;
+    let mut list: Vec<i64> = (0..n)
+        .map(|_| {
+            x = next(x);
+            price_or(&PRICES, x)
+        })
+        .collect();
+    if draws.has(7) && n > 0 {
+        list[faulty_point(draws, n)] = one_of(&PRICES_OUT, draws.count / 512);
+    }
+    list
+}
+
+/// Whether a fault that concerns the message comes after this refusal.
+fn has_later(draws: &Draws, message: u64, number: u64) -> bool {
+    let concern: &[u64] = match message {
+        OPEN | REVISE => &[2, 3, 4, 5, 8],
+        WITHDRAW | PAY => &[2, 3, 4],
+        POST | FINISH => &[2, 3, 4, 6, 7],
+        BILL => &[2, 3, 4, 9],
+        _ => &[],
+    };
+    concern
+        .iter()
+        .any(|&fault| fault > number && draws.has(fault))
+}
+
+/// A six-month number beside its three-month one.
+fn longer(three: u64, w: u64) -> u64 {
+    match w % 8 {
+        0 => three / 2,
+        1 => three + 1,
+        2 => three + 50,
+        3 => 1_000_000_001,
+        _ => three,
+    }
+}
+
+/// Thirteen fields, eight values, six stages, four kinds.
+const CHANGES: u64 = 13 * 8 * 6 * 4;
+const FIELD_SUPPORT: u64 = 11;
+const FIELD_TWICE: u64 = 12;
+
+/// What each field is set to, the last row being the book's support.
+const FIELD_VALUES: [[i64; 8]; 12] = [
+    [0, 1, 2, 3, 4, 5, 6, i64::MAX],
+    [0, 1, 2, 500, 998, 999, 1_000, i64::MAX],
+    [0, 1, 77, 999_998, 999_999, 1_000_000, 1_000_001, i64::MAX],
+    [0, 1, 2, 3, 4, 5, 6, i64::MAX],
+    [0, 1, 9_999, 10_000, 10_001, 640_000, 640_001, i64::MAX],
+    [0, 1, 2, 999_999, 1_000_000, 1_000_001, 1_000_002, i64::MAX],
+    [0, 1, 0, 1, 0, 1, 0, 1],
+    [0, 1, 99, 100, 101, 640_000, 640_001, i64::MAX],
+    [0, 1, -1, 1_000_000, -1_000_000, 1_000_001, -1_000_001, i64::MIN],
+    [
+        0,
+        -1,
+        20_000_000_000,
+        20_000_000_001,
+        640_000_000_000,
+        640_000_000_001,
+        TRILLION,
+        TRILLION + 1,
+    ],
+    [
+        -TRILLION,
+        -TRILLION - 1,
+        1_300_000_000_000,
+        1_300_000_000_001,
+        -1_300_000_000_000,
+        -1_300_000_000_001,
+        i64::MAX,
+        i64::MIN,
+    ],
+    [
+        0,
+        1,
+        MOST_SUPPORT,
+        -1,
+        MOST_SUPPORT + 1,
+        2 * MOST_SUPPORT,
+        i64::MAX,
+        i64::MIN,
+    ],
+];
+
+fn field_of(change: u64) -> u64 {
+    change / 192
+}
+
+/// A record that the change is made to; at stage 0 a free place.
+fn base_record(change: u64) -> Record {
+    match change / 4 % 6 {
+        0 => Record::FREE,
+        stage => Record {
+            key: Key {
+                kind: change % 4 + 1,
+                path: 900,
+                hour: 77,
+            },
+            stage,
+            bid_mwh: 100,
+            ..Record::FREE
+        },
+    }
+}
+
+fn changed(book: &Book, change: u64, w: u64) -> Book {
+    let mut next = book.clone();
+    let place = (w % PLACES as u64) as usize;
+    let field = field_of(change);
+    let cents = FIELD_VALUES[(field % 12) as usize][(change / 24 % 8) as usize];
+    if field == FIELD_SUPPORT {
+        next.support = cents;
+        return next;
+    }
+    let mut record = base_record(change);
+    let whole = cents.unsigned_abs();
+    match field {
+        0 => record.key.kind = whole,
+        1 => record.key.path = whole,
+        2 => record.key.hour = whole,
+        3 => record.stage = whole,
+        4 => record.bid_mwh = whole,
+        5 => record.differential = whole,
+        6 => record.exempt = whole == 1,
+        7 => record.schedule = whole,
+        8 => record.day_ahead_price = cents,
+        9 | 10 => record.requirement = cents,
+        _ => {}
+    }
+    next.records[place] = record;
+    if field == FIELD_TWICE {
+        next.records[PLACES - 1 - place] = record;
+    }
+    next
+}
+
+fn main() {
+    let mut input = String::new();
+    std::io::stdin()
+        .read_to_string(&mut input)
+        .expect("standard input is text");
+    let mut numbers = input.split_whitespace().map(|word| {
+        word.parse::<u64>()
+            .expect("standard input has three numbers")
+    });
+    let mut number = || numbers.next().unwrap_or(0);
+    let (turns, from, to) = (number(), number(), number());
+
+    let (book, _) = Book::fresh(0);
+    let mut run = Run {
+        book,
+        seed: 1,
+        digest: Digest(0),
+        turn: 0,
+        messages: 0,
+        open: 0,
+        most_open: 0,
+        again: false,
+        suspended: false,
+        held: 0,
+        net_owed: 0,
+        rows: [0; ROWS],
+    };
+    for support in [-1, 0, MOST_SUPPORT + 1, MOST_SUPPORT] {
+        run.begin(support);
+    }
+    let mut out = String::new();
+    for _ in 0..turns {
+        run.turn(&(from..to), &mut out);
+    }
+    for (row, &met) in run.rows.iter().enumerate() {
+        if met > 0 {
+            let _ = writeln!(out, "row {row} {met}");
+        }
+    }
+    let _ = writeln!(out, "messages {} {}", run.messages, run.digest.0);
+    std::io::stdout()
+        .write_all(out.as_bytes())
+        .expect("standard output takes the report");
+}
