@@ -1,8 +1,8 @@
 -- What every message has in common: its plan, concluded, is its step, and what it asks for can be carried out.
 -- Assumes nothing.
 use mathlib.Core.Path.{_≡_, refl, sym, ap, _∙_, subst}
-use mathlib.Core.Bool.{Bool, true, false}
-use mathlib.Core.List.{List, []}
+use mathlib.Core.Bool.{Bool, true, false, cond}
+use mathlib.Core.List.{List}
 use mathlib.Core.Logic.{⊎-elim}
 use Prim.Native.Nat.{ℕ}
 use lib.IntN.{ℤ}
@@ -10,19 +10,20 @@ use Rattle.amounts.specs.Amount.{Within}
 use Rattle.refusals.specs.Refusals.{Verdict, refuse, accept}
 use Rattle.refusals.proofs.Laws.{never}
 use Rattle.plans.specs.declared.types.Message.{Message}
-use Rattle.plans.specs.declared.types.Message.the-variants.{Open, Revise, Withdraw, Post, Finish, Bill, Pay, Support}
 use Rattle.plans.specs.declared.types.Change.the-variants.{Add, Redo, Move, Drop}
 use Rattle.plans.specs.declared.types.Deed.{Deed}
 use Rattle.plans.specs.declared.types.Deed.the-variants.{On, Refund}
 use Rattle.plans.specs.declared.types.Planned.{Planned}
+use Rattle.plans.specs.declared.types.Planned.the-variants.{Refused, Asks}
 use Rattle.records.specs.Records.{isFree}
 use Rattle.plans.specs.Plan.{keyOf, plan, planned}
 use Rattle.records.proofs.Keys.{ok-place, free-blank}
 use Rattle.records.proofs.Bounds.{requirement-bounded}
 use Rattle.plans.proofs.Fits.{Fits, fits}
-use Rattle.book.specs.Books.{Book, lookup, sound}
-use Rattle.book.specs.Ready.{Light, Apt, asVerdict}
-use Rattle.book.specs.Step.{table, askedOf, verdict, concluded, done, outcome, step}
+use Rattle.weighing.specs.Bounds.{Light}
+use Rattle.book.specs.Books.{Book, lookup, sound, totals}
+use Rattle.book.specs.Ready.{Apt, asVerdict}
+use Rattle.book.specs.Step.{pass, concluded, done, outcome, step}
 use Rattle.book.proofs.Kept.{sound-places, lookup-under, done-sound}
 use Rattle.book.proofs.Verdicts.{verdict-is}
 
@@ -43,14 +44,17 @@ light b m (On (Move r)) h f = tt
 light b m (On (Drop k)) h f = tt
 light b m (Refund z) h f = tt
 
-module _ (b : Book) (m : Message) (ms : List ℕ) (ps : List ℤ) (p : Planned) (e : p ≡ planned (plan (lookup b (keyOf m)) m ms ps)) where
+-- the plan is that of the record under the key, where the book is sound
+module _ (b : Book) (m : Message) (ms : List ℕ) (ps : List ℤ) (p : Planned) (e : sound b ≡ true → p ≡ planned (plan (lookup b (keyOf m)) m ms ps)) where
+  concluded-by : (s : Bool) → sound b ≡ s
+      → cond s (pass (totals b) (asVerdict p)) (refuse 1) ≡ cond s (pass (totals b) (plan (lookup b (keyOf m)) m ms ps)) (refuse 1)
+  concluded-by true h = ap (pass (totals b)) (ap asVerdict (e h) ∙ as-planned (plan (lookup b (keyOf m)) m ms ps))
+  concluded-by false h = refl
+
   -- a message is its plan, concluded
   pub concludes : outcome b (concluded b (asVerdict p)) ≡ step b m ms ps
-  unfolding step
-  concludes =
-      ap (λ (q : Planned). outcome b (concluded b (asVerdict q))) e
-      ∙ ap (λ (v : Verdict Deed). outcome b (concluded b v)) (as-planned (plan (lookup b (keyOf m)) m ms ps))
-      ∙ ap (outcome b) (sym (verdict-is b m ms ps))
+  unfolding step concluded
+  concludes = ap (outcome b) (concluded-by (sound b) refl ∙ sym (verdict-is b m ms ps))
 
   apt-by : (v : Verdict Deed) → plan (lookup b (keyOf m)) m ms ps ≡ v → Apt b (planned v)
   apt-by (refuse n) h = tt
@@ -58,28 +62,10 @@ module _ (b : Book) (m : Message) (ms : List ℕ) (ps : List ℤ) (p : Planned) 
       let f = fits (lookup b (keyOf m)) m ms ps d (lookup-under b (keyOf m) sane) h in
       record { light = light b m d sane f; kept = λ none. sound-places (done b d) (done-sound b m d sane f none) }
 
+  apt-of : (q : Planned) → p ≡ q → Apt b q
+  apt-of (Refused n) h = tt
+  apt-of (Asks d) h = λ sane. subst (Apt b) (sym (e sane) ∙ h) (apt-by (plan (lookup b (keyOf m)) m ms ps) refl) sane
+
   -- and what it asks for can be weighed and summed
   pub apt : Apt b p
-  apt = subst (Apt b) (sym e) (apt-by (plan (lookup b (keyOf m)) m ms ps) refl)
-
--- ---- a message without points does not look at the lists
-abbrev pub pointless : Message → Bool
-pointless (Open o) = false
-pointless (Revise o) = false
-pointless (Withdraw k) = true
-pointless (Post p) = true
-pointless (Finish f) = true
-pointless (Bill b) = true
-pointless (Pay k) = true
-pointless (Support s) = true
-
-pub without-points : (b : Book) (m : Message) (ms : List ℕ) (ps : List ℤ) → pointless m ≡ true → step b m [] [] ≡ step b m ms ps
-unfolding step verdict table askedOf
-without-points b (Open o) ms ps h = never h
-without-points b (Revise o) ms ps h = never h
-without-points b (Withdraw k) ms ps h = refl
-without-points b (Post p) ms ps h = refl
-without-points b (Finish f) ms ps h = refl
-without-points b (Bill x) ms ps h = refl
-without-points b (Pay k) ms ps h = refl
-without-points b (Support x) ms ps h = refl
+  apt = apt-of p refl

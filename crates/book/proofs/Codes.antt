@@ -5,11 +5,11 @@ use mathlib.Core.Bool.{Bool, true, false, _&&_, _||_, not, cond}
 use mathlib.Core.List.{List, [], _∷_, map}
 use mathlib.Core.Option.{some}
 use mathlib.Core.Logic.{_⊎_, inl, inr, ⊎-elim}
-use Prim.Native.Nat.{_+_, _*_, _≤_}
+use Prim.Native.Nat.{ℕ, _+_, _*_, _≤_}
 use native.Mathlib.Omega.{arith}
 use lib.Dec.{leb, eqb}
 use borrow.Author.Tests.{eqb-true, eqb-false, ne-eqb, leb-true}
-use Rattle.amounts.specs.Limits.{between}
+use Rattle.amounts.specs.Limits.{between, isSupport}
 use Rattle.amounts.specs.Lists.{every}
 use Rattle.refusals.proofs.Laws.{and-left, and-right, never}
 use Rattle.records.specs.declared.types.Key.{Key}
@@ -19,7 +19,7 @@ use Rattle.records.proofs.Keys.{sameKey-eq, sameKey-refl, free-blank, at-blank,
 use Rattle.records.proofs.Clauses.{clauses}
 use Rattle.apart.specs.Apart.{standsIn, apart}
 use Rattle.book.specs.Places.{find, missing}
-use Rattle.book.specs.Books.{distinct}
+use Rattle.book.specs.Books.{Book, distinct, sound}
 use Rattle.book.specs.Codes.{codeOf}
 
 -- a key's three ranges, as numbers
@@ -112,3 +112,12 @@ and-none false b c e = refl
 pub and-middle : (a b c : Bool) → b ≡ true → (a && b && c) ≡ (a && c)
 and-middle true b c e = rw e
 and-middle false b c e = refl
+
+-- a book is sound by the test of its places, that of its support, and that of its keys' numbers, which are looked at whatever the places hold
+pub sound-by : (b : Book) (ranged : Bool) (codes : List ℕ) → ranged ≡ every okPlace (b .records) → (ranged ≡ true → codes ≡ map codeOf (b .records))
+    → (ranged && isSupport (b .support) && apart codes) ≡ sound b
+unfolding sound
+sound-by b true codes e f =
+    ap (λ (x : Bool). isSupport (b .support) && x) (ap apart (f refl) ∙ sym (distinct-apart (b .records) (sym e)))
+    ∙ sym (and-middle (isSupport (b .support)) (every okPlace (b .records)) (distinct (b .records)) (sym e))
+sound-by b false codes e f = sym (and-none (isSupport (b .support)) (every okPlace (b .records)) (distinct (b .records)) (sym e))

@@ -3,14 +3,16 @@
 use mathlib.Core.Path.{_≡_, refl}
 use mathlib.Core.Bool.{true, false}
 use Prim.Native.Nat.{ℕ}
+use native.Mathlib.Omega.{arith}
 use lib.IntN.{pos}
 use Rattle.refusals.specs.Refusals.{first, Verdict, refuse, accept, judge}
 use Rattle.refusals.proofs.Laws.{answered-none, answered-some}
 use Rattle.plans.specs.declared.types.Deed.{Deed}
 use lib.ListN.{length}
+use Rattle.weighing.specs.Bounds.{Small}
+use Rattle.weighing.specs.Weighing.{weighRows, weigh, answeredBy}
 use Rattle.book.specs.Books.{Book, sound, held, owed, totals, heldShown, owedShown}
-use Rattle.book.specs.Ready.{Small}
-use Rattle.book.specs.Step.{Accepted, Refused, weighRows, weigh, pass, concluded, done, answeredBy, outcome}
+use Rattle.book.specs.Step.{Accepted, Refused, pass, concluded, done, outcome}
 use Rattle.book.proofs.Kept.{sound-places}
 use Rattle.book.proofs.Sums.{total-bounded}
 
@@ -39,7 +41,7 @@ module _ (b : Book) where
   pub totals-small : sound b ≡ true → length (b .records) ≡ 256 → Small (totals b)
   unfolding totals held owed
   totals-small h e =
-      record { held = total-bounded false (b .records) 0 (sound-places b h) e; owed = total-bounded true (b .records) 0 (sound-places b h) e }
+      record { held = total-bounded false (b .records) (sound-places b h) (omega (arith, e)); owed = total-bounded true (b .records) (sound-places b h) (omega (arith, e)) }
 
   pub weighed-refused : (d : Deed) (n : ℕ) → n ≡ first (weighRows (totals b) d) → (n ≡ 0 → ⊥) → weigh (totals b) d ≡ refuse n
   unfolding weigh judge

@@ -21,9 +21,10 @@ use Rattle.records.specs.Records.{blank, isFree, at, okPlace}
 use Rattle.plans.specs.Plan.{keyOf}
 use Rattle.records.proofs.Keys.{at-key, at-used, free-blank, place-used}
 use Rattle.plans.proofs.Fits.{Under, Fits}
+use Rattle.weighing.specs.Weighing.{weighRows}
 use Rattle.book.specs.Places.{find, swap, missing, orElseBlank}
 use Rattle.book.specs.Books.{Book, lookup, sound, distinct, full, totals}
-use Rattle.book.specs.Step.{weighRows, change, rebook, done}
+use Rattle.book.specs.Step.{change, rebook, done}
 use Rattle.book.proofs.Places.{find-passes, every-find}
 use Rattle.book.proofs.Effect.{Effect, effect-add, effect-put, effect-drop}
 

@@ -16,16 +16,10 @@ use Rattle.plans.specs.declared.types.Deed.the-variants.{On, Refund}
 use Rattle.plans.specs.declared.types.Change.the-variants.{Add, Redo, Move, Drop}
 use Rattle.plans.specs.Plan.{keyOf, planRows, plan}
 use Rattle.plans.proofs.Fits.{plan-rows-numbered}
-use Rattle.book.specs.Books.{Book, Totals, lookup, sound, totals}
-use Rattle.book.specs.Step.{weighRows, askedOf, table, verdict, weigh, pass, concluded}
-
-pub weigh-rows-numbered : (t : Totals) (d : Deed) → numbered (weighRows t d) ≡ true
-unfolding numbered
-weigh-rows-numbered t (On (Add r)) = refl
-weigh-rows-numbered t (On (Redo was r)) = refl
-weigh-rows-numbered t (On (Move r)) = refl
-weigh-rows-numbered t (On (Drop k)) = refl
-weigh-rows-numbered t (Refund support) = refl
+use Rattle.weighing.specs.declared.types.Totals.{Totals}
+use Rattle.weighing.specs.Weighing.{weighRows, weigh}
+use Rattle.book.specs.Books.{Book, lookup, sound, totals}
+use Rattle.book.specs.Step.{askedOf, table, verdict, pass, concluded}
 
 -- two tables, one below the other: the lower is asked only where the upper has passed
 module _ {X : Type 0} (x : X) where

@@ -2,18 +2,18 @@
 -- Assumes nothing.
 use mathlib.Core.Bool.{Bool, true, false, _&&_, _||_, cond}
 use mathlib.Core.List.{List, [], _∷_}
-use lib.Dec.{eqb}
-use lib.IntN.{ℤ, pos, _*ℤ_}
+use lib.IntN.{ℤ, pos}
 use lib.ListN.{replicate}
-use lib.Signed.{leZ}
 use Rattle.amounts.specs.Limits.{isSupport}
 use Rattle.amounts.specs.Lists.{total, every}
 use Rattle.records.specs.declared.types.Key.{Key}
 use Rattle.records.specs.declared.types.Record.{Record}
 use Rattle.records.specs.Records.{blank, isFree, at, okPlace}
+use Rattle.weighing.specs.Weights.{owes}
+use Rattle.weighing.specs.declared.types.Totals.{Totals}
+use Rattle.weighing.specs.Weighing.{suspended}
 use Rattle.book.specs.Places.{find, missing, orElseBlank}
 pub use Rattle.book.specs.declared.types.Book.{Book}
-pub use Rattle.book.specs.declared.types.Totals.{Totals}
 
 -- the record under a key; blank where the key is not open
 unfoldable pub lookup : Book → Key → Record
@@ -33,16 +33,8 @@ unfoldable pub held : Book → ℤ
 held b = total (λ r. r .requirement) (b .records)
 
 -- 'Net owed is the sum over stage 4'
-unfoldable pub owes : Record → ℤ
-owes r = cond (eqb (r .stage) 4) (r .requirement) (pos 0)
-
 unfoldable pub owed : Book → ℤ
 owed b = total owes (b .records)
-
--- what a record weighs in one of the two sums
-abbrev pub weight : Bool → Record → ℤ
-weight true r = owes r
-weight false r = r .requirement
 
 -- no place is free
 unfoldable pub full : Book → Bool
@@ -51,10 +43,6 @@ full b = missing (find isFree (b .records))
 -- all that refusals 14 to 16 see of the book
 unfoldable pub totals : Book → Totals
 totals b = record { support = b .support; held = held b; owed = owed b; full = full b }
-
--- 'The book is suspended exactly when 2 x net owed is at least the support'
-unfoldable pub suspended : Totals → Bool
-suspended t = leZ (t .support) (pos 2 *ℤ t .owed)
 
 -- what a screen is shown, and a refusal answers: the paper says 'both 0' for a book that is not sound, and such a book takes no bid
 unfoldable pub heldShown : Book → ℤ

@@ -1,11 +1,10 @@
 -- Document 01, 'Messages and stages' and 'Turned away, and why': what a message answers, and the next book.
--- A message's refusals 2 to 13 and what it asks for stand in crate `records`, specs/Plan.antt.
+-- A message's refusals 2 to 13 and what it asks for stand in crate `plans`, specs/Plan.antt; refusals 14 to 16 in crate `weighing`, specs/Weighing.antt.
 -- Assumes nothing.
-use mathlib.Core.Bool.{_&&_, not, cond}
-use mathlib.Core.List.{List, [], _∷_, _++_}
+use mathlib.Core.Bool.{not, cond}
+use mathlib.Core.List.{List, _∷_, _++_}
 use Prim.Native.Nat.{ℕ}
-use lib.IntN.{ℤ, pos, _+ℤ_, _-ℤ_}
-use lib.Signed.{ltZ}
+use lib.IntN.{ℤ, pos}
 use Rattle.amounts.specs.Limits.{isSupport}
 use Rattle.refusals.specs.Refusals.{Row, row, Verdict, refuse, accept, judge}
 use Rattle.records.specs.declared.types.Record.{Record}
@@ -20,19 +19,9 @@ pub use Rattle.book.specs.declared.types.Answer.{Answer}
 pub use Rattle.book.specs.declared.types.Outcome.{Outcome}
 pub use Rattle.book.specs.declared.types.Answer.the-variants.{Accepted, Refused}
 use Rattle.book.specs.Places.{swap}
-use Rattle.book.specs.Books.{Book, Totals, lookup, sound, held, owed, totals, suspended, heldShown, owedShown, empty}
-
--- ---- refusals 14 to 16: they see the totals and what is asked for, and nothing else
-
--- 14 'open or revise while suspended', 15 'open with 256 records', 16 'open: held + requirement above support;
--- revise: the new requirement is above the old and held afterwards is above support'
-abbrev pub weighRows : Totals → Deed → List Row
-weighRows t (On (Add r)) = row 14 (suspended t) ∷ row 15 (t .full) ∷ row 16 (ltZ (t .support) (t .held +ℤ r .requirement)) ∷ []
-weighRows t (On (Redo was r)) =
-    row 14 (suspended t) ∷ row 16 (ltZ was (r .requirement) && ltZ (t .support) (t .held -ℤ was +ℤ r .requirement)) ∷ []
-weighRows t (On (Move r)) = []
-weighRows t (On (Drop k)) = []
-weighRows t (Refund support) = []
+use Rattle.weighing.specs.declared.types.Totals.{Totals}
+use Rattle.weighing.specs.Weighing.{weighRows, weigh, answeredBy}
+use Rattle.book.specs.Books.{Book, lookup, sound, held, owed, totals, heldShown, owedShown, empty}
 
 -- ---- all the refusals that concern a message, in the paper's order
 
@@ -48,10 +37,7 @@ table b m mwhs prices =
 unfoldable pub verdict : Book → Message → List ℕ → List ℤ → Verdict Deed
 verdict b m mwhs prices = judge (table b m mwhs prices) (askedOf b m mwhs prices)
 
--- the second part, where the first has passed
-unfoldable pub weigh : Totals → Deed → Verdict Deed
-weigh t d = judge (weighRows t d) d
-
+-- the second part is asked where the first has passed
 unfoldable pub pass : Totals → Verdict Deed → Verdict Deed
 pass t (refuse n) = refuse n
 pass t (accept d) = weigh t d
@@ -77,14 +63,6 @@ done b (On c) = rebook b (b .support) (change c (b .records))
 done b (Refund support) = rebook b support (b .records)
 
 -- ---- the answer
-
--- 'the key's requirement (0 after withdraw, pay and support)'
-abbrev pub answeredBy : Deed → ℤ
-answeredBy (On (Add r)) = r .requirement
-answeredBy (On (Redo was r)) = r .requirement
-answeredBy (On (Move r)) = r .requirement
-answeredBy (On (Drop k)) = pos 0
-answeredBy (Refund support) = pos 0
 
 -- 'Acceptance answers the key's requirement, held and net owed of the next book. A refusal answers its number, ..
 -- the held and net owed of the unchanged book (both 0 for 1)'; refusal 1 is given exactly where the book is not sound

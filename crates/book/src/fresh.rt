@@ -48,29 +48,35 @@ impl Book {
     pub fn held(self) -> i64
         ensures { λ z. ⌜ z ≡ heldShown self ⌝ }
     {
-        if !self.is_sound() {
+        let view = self.view(Record::blank().key);
+        if !view.sound {
             return 0;
         }
-        self.total(false)
+        let totals = view.totals;
+        totals.held
     }
 
     // The net billed amount; 0 for a book that is not sound.
     pub fn net_owed(self) -> i64
         ensures { λ z. ⌜ z ≡ owedShown self ⌝ }
     {
-        if !self.is_sound() {
+        let view = self.view(Record::blank().key);
+        if !view.sound {
             return 0;
         }
-        self.total(true)
+        let totals = view.totals;
+        totals.owed
     }
 
     // A book that is not sound takes no bid, so it shows as suspended.
     pub fn suspended(self) -> bool
         ensures { λ r. ⌜ r ≡ suspendedShown self ⌝ }
     {
-        if !self.is_sound() {
+        let view = self.view(Record::blank().key);
+        if !view.sound {
             return true;
         }
-        self.totals().is_suspended()
+        let totals = view.totals;
+        totals.is_suspended()
     }
 }

@@ -6,4 +6,3 @@ mod soundness;
 mod totals;
 pub mod types;
 mod walks;
-mod weigh;

@@ -4,6 +4,8 @@ ghost use mathlib.Core.List.{[]};
 ghost use Rattle.book.specs.Step.{step};
 use crate::types::Book;
 use crate::types::Outcome;
+use dispatch::key_of;
+use dispatch::plan_of;
 use plans::types::Billing;
 use plans::types::Finishing;
 use plans::types::Funding;
@@ -11,76 +13,78 @@ use plans::types::Message;
 use plans::types::Opening;
 use plans::types::Posting;
 use records::types::Key;
+use records::types::Record;
 
 impl Book {
     pub fn open(self, opening: Opening, mwh: &[u64], prices: &[i64]) -> Outcome
         ensures { λ r. ⌜ r ≡ step self (Message.Open opening) (now (mwh .entry)) (now (prices .entry)) ⌝ }
     {
-        let old = self.lookup(opening.key);
-        self.conclude(opening.open(old, mwh, prices))
+        let view = self.view(opening.key);
+        let old = view.old;
+        self.conclude(view, opening.open(old, mwh, prices))
     }
 
     pub fn revise(self, opening: Opening, mwh: &[u64], prices: &[i64]) -> Outcome
         ensures { λ r. ⌜ r ≡ step self (Message.Revise opening) (now (mwh .entry)) (now (prices .entry)) ⌝ }
     {
-        let old = self.lookup(opening.key);
-        self.conclude(opening.revise(old, mwh, prices))
+        let view = self.view(opening.key);
+        let old = view.old;
+        self.conclude(view, opening.revise(old, mwh, prices))
     }
 
     pub fn withdraw(self, key: Key) -> Outcome
         ensures { λ r. ⌜ r ≡ step self (Message.Withdraw key) [] [] ⌝ }
     {
-        let old = self.lookup(key);
-        self.conclude(plans::withdraw(key, old))
+        let view = self.view(key);
+        let old = view.old;
+        self.conclude(view, plans::withdraw(key, old))
     }
 
     pub fn post(self, posting: Posting) -> Outcome
         ensures { λ r. ⌜ r ≡ step self (Message.Post posting) [] [] ⌝ }
     {
-        let old = self.lookup(posting.key);
-        self.conclude(posting.plan(old))
+        let view = self.view(posting.key);
+        let old = view.old;
+        self.conclude(view, posting.plan(old))
     }
 
     pub fn finish(self, finishing: Finishing) -> Outcome
         ensures { λ r. ⌜ r ≡ step self (Message.Finish finishing) [] [] ⌝ }
     {
-        let old = self.lookup(finishing.key);
-        self.conclude(finishing.plan(old))
+        let view = self.view(finishing.key);
+        let old = view.old;
+        self.conclude(view, finishing.plan(old))
     }
 
     pub fn bill(self, billing: Billing) -> Outcome
         ensures { λ r. ⌜ r ≡ step self (Message.Bill billing) [] [] ⌝ }
     {
-        let old = self.lookup(billing.key);
-        self.conclude(billing.plan(old))
+        let view = self.view(billing.key);
+        let old = view.old;
+        self.conclude(view, billing.plan(old))
     }
 
     pub fn pay(self, key: Key) -> Outcome
         ensures { λ r. ⌜ r ≡ step self (Message.Pay key) [] [] ⌝ }
     {
-        let old = self.lookup(key);
-        self.conclude(plans::pay(key, old))
+        let view = self.view(key);
+        let old = view.old;
+        self.conclude(view, plans::pay(key, old))
     }
 
     pub fn support(self, funding: Funding) -> Outcome
         ensures { λ r. ⌜ r ≡ step self (Message.Support funding) [] [] ⌝ }
     {
-        self.conclude(funding.plan())
+        let view = self.view(Record::blank().key);
+        self.conclude(view, funding.plan())
     }
 
     // Any message, with the points of an open or a revise beside it; the others have none.
     pub fn apply(self, message: Message, mwh: &[u64], prices: &[i64]) -> Outcome
         ensures { λ r. ⌜ r ≡ step self message (now (mwh .entry)) (now (prices .entry)) ⌝ }
     {
-        match message {
-            Message::Open(opening) => self.open(opening, mwh, prices),
-            Message::Revise(opening) => self.revise(opening, mwh, prices),
-            Message::Withdraw(key) => self.withdraw(key),
-            Message::Post(posting) => self.post(posting),
-            Message::Finish(finishing) => self.finish(finishing),
-            Message::Bill(billing) => self.bill(billing),
-            Message::Pay(key) => self.pay(key),
-            Message::Support(funding) => self.support(funding),
-        }
+        let view = self.view(key_of(message));
+        let old = view.old;
+        self.conclude(view, plan_of(message, old, mwh, prices))
     }
 }

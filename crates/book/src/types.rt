@@ -11,14 +11,6 @@ impl Book {
     pub const PLACES: usize = 256;
 }
 
-// All that refusals 14 to 16 see of a book.
-pub struct Totals {
-    pub support: i64,
-    pub held: i64,
-    pub owed: i64,
-    pub full: bool,
-}
-
 pub enum Answer {
     Accepted {
         requirement: i64,

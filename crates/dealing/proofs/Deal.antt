@@ -25,10 +25,11 @@ use Rattle.plans.specs.declared.types.Deed.{Deed}
 use Rattle.plans.specs.declared.types.Deed.the-variants.{On}
 use Rattle.plans.specs.Plan.{keyOf, opens, asked, planRows}
 use Rattle.plans.proofs.Fits.{Fits}
+use Rattle.weighing.specs.Weighing.{weighRows, answeredBy}
 use Rattle.book.specs.declared.types.Book.{Book}
 use Rattle.book.specs.Places.{find, orElseBlank}
 use Rattle.book.specs.Books.{lookup, sound, full, totals}
-use Rattle.book.specs.Step.{reply, weighRows, askedOf, table, change, rebook, done, answeredBy, step}
+use Rattle.book.specs.Step.{reply, askedOf, table, change, rebook, done, step}
 use Rattle.book.proofs.Effect.{Effect, weight, mark}
 use Rattle.book.proofs.Kept.{lookup-none, effect, leaves, done-sound}
 use Rattle.promises.proofs.Answers.{none-accepted}

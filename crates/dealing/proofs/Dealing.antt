@@ -10,9 +10,10 @@ use Rattle.records.specs.declared.types.Record.{Record}
 use Rattle.records.specs.Records.{blank, sameKey}
 use Rattle.records.proofs.Keys.{sameKey-eq}
 use Rattle.plans.specs.Plan.{keyOf, opens}
+use Rattle.weighing.specs.Weights.{owes}
 use Rattle.book.specs.declared.types.Book.{Book}
 use Rattle.book.specs.Places.{orElseBlank}
-use Rattle.book.specs.Books.{lookup, held, owed, owes}
+use Rattle.book.specs.Books.{lookup, held, owed}
 use Rattle.book.specs.Step.{fresh}
 use Rattle.promises.specs.Runs.{Sent}
 use Rattle.dealing.specs.Dealing.{sentTo, Accepted, Dealt, whole, owner, owners, Follows, Fair, byKey, topSupport, wholeBook, Split}

@@ -20,8 +20,10 @@ use Rattle.records.specs.Records.{isBlank, isFree, sameKey, at, okRecord, okPla
 use Rattle.plans.specs.declared.types.Message.{Message}
 use Rattle.plans.specs.declared.types.Message.the-variants.{Open, Post, Finish, Bill, Pay, Support}
 use Rattle.plans.specs.Plan.{bidFor, postedFor, finishedFor, stageRows}
+use Rattle.weighing.specs.Weighing.{suspended}
+use Rattle.weighing.specs.Weights.{owes}
 use Rattle.book.specs.Places.{find, swap, missing, orElseBlank}
-use Rattle.book.specs.Books.{lookup, distinct, sound, held, owes, owed, full, totals, suspended, noRecords}
+use Rattle.book.specs.Books.{lookup, distinct, sound, held, owed, full, totals, noRecords}
 use Rattle.book.specs.Step.{askedOf, table, verdict, change, done, outcome, step, fresh}
 use Rattle.promises.specs.Runs.{after}
 use Rattle.dealing.specs.Dealing.{Accepted, requirements, Dealt, whole, part, owner, Follows, Fair, wholeBook, sideBook, Split}

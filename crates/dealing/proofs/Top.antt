@@ -20,11 +20,11 @@ use Rattle.plans.specs.declared.types.Deed.{Deed}
 use Rattle.plans.specs.declared.types.Deed.the-variants.{On, Refund}
 use Rattle.plans.specs.Plan.{keyOf, opens}
 use Rattle.plans.proofs.Fits.{Fine, Fits}
+use Rattle.weighing.specs.Bounds.{Small}
+use Rattle.weighing.specs.declared.types.Totals.{Totals}
+use Rattle.weighing.specs.Weighing.{suspended, weighRows}
 use Rattle.book.specs.declared.types.Book.{Book}
-use Rattle.book.specs.declared.types.Totals.{Totals}
-use Rattle.book.specs.Books.{lookup, sound, held, owed, full, totals, suspended}
-use Rattle.book.specs.Ready.{Small}
-use Rattle.book.specs.Step.{weighRows}
+use Rattle.book.specs.Books.{lookup, sound, held, owed, full, totals}
 use Rattle.book.proofs.Places.{every-find}
 use Rattle.book.proofs.Kept.{sound-places, lookup-some}
 use Rattle.book.proofs.Endings.{totals-small}

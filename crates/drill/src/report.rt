@@ -1,29 +1,15 @@
 // What the drill prints: a line for a turn, a line for a checkpoint, and the table.
-use crate::asks::Ask;
-use crate::tally::Reply;
-use crate::tally::Tally;
-use libc::STDOUT_FILENO;
+use asks::Ask;
+use draws::points;
+use lines::cents;
+use lines::number;
+use lines::print;
 use refusals::pick;
-
-fn print(word: &[u8]) {
-    io::write_all(STDOUT_FILENO, word);
-}
-
-fn number(value: u64) {
-    print(b" ");
-    io::print_decimal(STDOUT_FILENO, value);
-}
-
-fn cents(value: i64) {
-    print(b" ");
-    if value < 0 {
-        print(b"-");
-    }
-    io::print_decimal(STDOUT_FILENO, amounts::magnitude(value));
-}
+use tallies::tally::Reply;
+use tallies::tally::Tally;
 
 // All that a message could be made of, whatever it is, and the lengths of the two lists.
-fn asked(ask: Ask, mwh: usize, prices: usize) {
+fn asked(ask: Ask, seed: u64) {
     number(ask.message);
     number(ask.key.kind);
     number(ask.key.path);
@@ -34,14 +20,14 @@ fn asked(ask: Ask, mwh: usize, prices: usize) {
     cents(ask.price);
     cents(ask.second);
     cents(ask.cents);
-    number(mwh as u64);
-    number(prices as u64);
+    number(points::mwh_count(seed) as u64);
+    number(points::price_count(seed) as u64);
 }
 
-pub(crate) fn turn(tally: Tally, ask: Ask, mwh: usize, prices: usize, reply: Reply) {
+pub(crate) fn turn(tally: Tally, ask: Ask, reply: Reply) {
     print(b"turn");
     number(tally.turn);
-    asked(ask, mwh, prices);
+    asked(ask, tally.seed);
     print(b" :");
     number(reply.number);
     cents(reply.requirement);

@@ -3,7 +3,6 @@
 // the points of an open or a revise last; other lines begin a fresh book, look at a place or at the sums (support, held, net owed), or make
 // a book that no message makes (`write` a place, `endow` with a support).
 mod act;
-mod numbers;
 mod say;
 
 ghost use Prim.Native.Nat.{_≤_};
@@ -27,9 +26,9 @@ fn line_end(text: &[u8], from: usize) -> usize
 }
 
 fn line(book: Book, text: &[u8]) -> Book {
-    say::print(text);
+    lines::print(text);
     let next = act::act(book, text);
-    say::print(b"\n");
+    lines::print(b"\n");
     next
 }
 

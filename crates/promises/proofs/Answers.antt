@@ -13,12 +13,13 @@ use Rattle.plans.specs.declared.types.Message.{Message}
 use Rattle.plans.specs.declared.types.Deed.{Deed}
 use Rattle.plans.specs.Plan.{keyOf, planRows}
 use Rattle.plans.proofs.Fits.{plan-rows-numbered}
+use Rattle.weighing.proofs.Rows.{weigh-rows-numbered}
+use Rattle.weighing.specs.Weighing.{weighRows}
 use Rattle.book.specs.declared.types.Book.{Book}
 use Rattle.book.specs.declared.types.Outcome.{Outcome}
 use Rattle.book.specs.Books.{lookup, sound, held, owed, totals, heldShown, owedShown}
-use Rattle.book.specs.Step.{reply, weighRows, askedOf, table, verdict, outcome, step}
+use Rattle.book.specs.Step.{reply, askedOf, table, verdict, outcome, step}
 use Rattle.promises.specs.Statements.{replied, Unchanged}
-use Rattle.book.proofs.Verdicts.{weigh-rows-numbered}
 
 module _ (b : Book) (m : Message) (ms : List ℕ) (ps : List ℤ) where
   pub table-numbered : numbered (table b m ms ps) ≡ true

@@ -20,10 +20,11 @@ use Rattle.plans.specs.declared.types.Change.the-variants.{Add, Redo, Move, Dro
 use Rattle.plans.specs.declared.types.Deed.{Deed}
 use Rattle.plans.specs.declared.types.Deed.the-variants.{On, Refund}
 use Rattle.plans.specs.Plan.{keyOf, stageRows, planRows}
+use Rattle.weighing.specs.declared.types.Totals.{Totals}
+use Rattle.weighing.specs.Weighing.{weighRows}
 use Rattle.book.specs.declared.types.Book.{Book}
-use Rattle.book.specs.declared.types.Totals.{Totals}
 use Rattle.book.specs.Books.{lookup, sound, totals}
-use Rattle.book.specs.Step.{weighRows, askedOf, table}
+use Rattle.book.specs.Step.{askedOf, table}
 use Rattle.promises.specs.Statements.{replied}
 use Rattle.promises.proofs.Answers.{number-is}
 

@@ -23,10 +23,11 @@ use Rattle.plans.specs.declared.types.Deed.the-variants.{On, Refund}
 use Rattle.plans.specs.Plan.{keyOf, opened, posted, moved}
 use Rattle.plans.proofs.Fits.{Fits}
 use Rattle.plans.proofs.Formulas.{bidOf01, bid-is, revised-is, posted-is, finished-is}
+use Rattle.weighing.specs.Weighing.{weighRows}
 use Rattle.book.specs.declared.types.Book.{Book}
 use Rattle.book.specs.Places.{orElseBlank}
 use Rattle.book.specs.Books.{lookup, sound, totals}
-use Rattle.book.specs.Step.{weighRows, askedOf, rebook, done, step}
+use Rattle.book.specs.Step.{askedOf, rebook, done, step}
 use Rattle.book.proofs.Kept.{leaves, effect, lookup-under}
 use Rattle.promises.specs.Statements.{replied}
 use Rattle.promises.proofs.Taken.{taken, fitting}

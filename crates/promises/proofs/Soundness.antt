@@ -13,8 +13,10 @@ use Rattle.amounts.specs.Lists.{sum, every}
 use Rattle.refusals.proofs.Laws.{and-left, and-right, and-both}
 use Rattle.plans.specs.declared.types.Message.{Message}
 use Rattle.records.specs.Records.{isBlank, isFree, okPlace}
+use Rattle.weighing.specs.Weighing.{suspended}
+use Rattle.weighing.specs.Weights.{owes}
 use Rattle.book.specs.declared.types.Book.{Book}
-use Rattle.book.specs.Books.{sound, distinct, held, owed, owes, totals, suspended, suspendedShown, noRecords, empty}
+use Rattle.book.specs.Books.{sound, distinct, held, owed, totals, suspendedShown, noRecords, empty}
 use Rattle.book.specs.declared.types.Outcome.{Outcome}
 use Rattle.book.specs.declared.types.Answer.the-variants.{Accepted, Refused}
 use Rattle.book.specs.Step.{fresh, step, askedOf}

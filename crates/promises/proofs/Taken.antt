@@ -11,9 +11,10 @@ use Rattle.refusals.proofs.Laws.{judge-none, none-split}
 use Rattle.plans.specs.declared.types.Message.{Message}
 use Rattle.plans.specs.Plan.{keyOf, planRows, plan}
 use Rattle.plans.proofs.Fits.{Fits, fits}
+use Rattle.weighing.specs.Weighing.{weighRows}
 use Rattle.book.specs.declared.types.Book.{Book}
 use Rattle.book.specs.Books.{lookup, sound, held, owed, totals}
-use Rattle.book.specs.Step.{weighRows, askedOf, table, verdict, outcome, step}
+use Rattle.book.specs.Step.{askedOf, table, verdict, outcome, step}
 use Rattle.book.proofs.Kept.{lookup-under}
 use Rattle.promises.specs.Statements.{replied, Taken}
 use Rattle.promises.proofs.Answers.{accepted-none}

@@ -8,9 +8,10 @@ use lib.IntN.{ℤ, pos}
 use Rattle.refusals.specs.Refusals.{None}
 use Rattle.plans.specs.declared.types.Message.{Message}
 use Rattle.plans.specs.Plan.{keyOf, planRows}
+use Rattle.weighing.specs.Weighing.{weighRows, answeredBy}
 use Rattle.book.specs.declared.types.Book.{Book}
 use Rattle.book.specs.Books.{lookup, sound, held, owed, totals, heldShown, owedShown}
-use Rattle.book.specs.Step.{Reply, reply, weighRows, askedOf, done, answeredBy, step}
+use Rattle.book.specs.Step.{Reply, reply, askedOf, done, step}
 
 module _ (b : Book) (m : Message) (ms : List ℕ) (ps : List ℤ) where
   -- the paper's number and values of the answer

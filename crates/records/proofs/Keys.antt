@@ -1,7 +1,7 @@
 -- Keys, free places, and the record that stands open under a key.
 -- Assumes nothing.
 use mathlib.Core.Path.{_≡_, refl, sym, ap, _∙_}
-use mathlib.Core.Bool.{Bool, true, false, not, _&&_}
+use mathlib.Core.Bool.{Bool, true, false, not, _&&_, _||_}
 use mathlib.Core.Logic.{⊎-elim}
 use native.Mathlib.Omega.{arith}
 use lib.Dec.{leb, eqb}
@@ -159,3 +159,12 @@ ok-place r h = or-right (isBlank r) (okRecord r) h
 pub ok-blank : okPlace blank ≡ true
 unfolding okPlace
 ok-blank = rw blank-blank
+
+-- one of the two tests is enough
+pub free-place : (r : Record) → isFree r ≡ true → isBlank r ≡ okPlace r
+unfolding okPlace
+free-place r free =
+    by-test (isBlank r) (isBlank r || okRecord r) (λ h. rw h) (λ h. ap isBlank (place-free r h free) ∙ blank-blank)
+
+pub used-place : (r : Record) → isFree r ≡ false → okRecord r ≡ okPlace r
+used-place r used = by-test (okRecord r) (okPlace r) (ok-place r) (λ h. place-used r h used)

@@ -168,6 +168,11 @@ impl Record {
     pub fn is_sound(self) -> bool
         ensures { λ r. ⌜ r ≡ okPlace self ⌝ }
     {
-        self.is_blank() | self.in_range()
+        // By one test at most: a free place passes no clause of a record, and a record is not blank.
+        if self.is_free() {
+            self.is_blank()
+        } else {
+            self.in_range()
+        }
     }
 }

@@ -13,7 +13,7 @@ abbrev μ-loop : tie.MeasureT-loop
 μ-loop text book₀ at₀ book at = length text - at
 
 fresh-requires : tie.Need-fresh-requires Inv-loop μ-loop
-fresh-requires c κs = search needs
+fresh-requires c κs = tt
 
 loop-holds : tie.Need-loop-holds Inv-loop μ-loop
 loop-holds c = refl
@@ -31,7 +31,7 @@ part-line-end : tie.Need-part-line-end Inv-loop μ-loop
 part-line-end c = search needs
 
 line-requires : tie.Need-line-requires Inv-loop μ-loop
-line-requires c κs = search needs
+line-requires c κs = tt
 
 add-at : tie.Need-add-at Inv-loop μ-loop
 add-at c = search needs

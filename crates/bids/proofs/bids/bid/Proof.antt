@@ -1,7 +1,6 @@
 -- `bids::bid`: refused by the number that the table gives, or else the bid by its formulas.
 use mathlib.Core.Path.{_≡_}
 use mathlib.Core.Bool.{true, _||_}
-use borrow.Author.Needs.{needs}
 use lib.Dec.{leb, eqb}
 use Rattle.amounts.specs.Limits.{isDifferential}
 use Rattle.amounts.proofs.Steps.{back}
@@ -13,7 +12,7 @@ use Rattle.bids.proofs.bids.bid.Statement.{statement}
 use Rattle.bids.proofs.bids.bid.Tie as tie
 
 bid-refusal-requires : tie.Need-bid-refusal-requires
-bid-refusal-requires c κs = search needs
+bid-refusal-requires c κs = tt
 
 returns : tie.Need-returns
 returns c =

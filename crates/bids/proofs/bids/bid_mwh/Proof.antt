@@ -2,17 +2,16 @@
 use mathlib.Core.Path.{sym, _∙_}
 use mathlib.Core.Logic.{inl, inr, ⊎-elim}
 use native.Mathlib.Omega.{arith}
-use borrow.Author.Needs.{needs}
 use Rattle.bids.specs.Bids.{bidMwh}
 use Rattle.bids.proofs.Curves.{export-kind, other-kind}
 use Rattle.bids.proofs.bids.bid_mwh.Statement.{statement}
 use Rattle.bids.proofs.bids.bid_mwh.Tie as tie
 
 total-mwh-requires : tie.Need-total-mwh-requires
-total-mwh-requires c κs = search needs
+total-mwh-requires c κs = search
 
 largest-mwh-requires : tie.Need-largest-mwh-requires
-largest-mwh-requires c κs = search needs
+largest-mwh-requires c κs = search
 
 returns : tie.Need-returns
 unfolding bidMwh

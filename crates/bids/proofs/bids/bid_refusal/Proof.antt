@@ -1,7 +1,6 @@
 -- `bids::bid_refusal`: the row of the kind over those of the points and that of the differential.
 use mathlib.Core.Bool.{not}
 use mathlib.Core.List.{[], _∷_}
-use borrow.Author.Needs.{needs}
 use Rattle.refusals.specs.Refusals.{row, first}
 use Rattle.refusals.proofs.Laws.{first-append}
 use Rattle.bids.specs.Rows.{differentialFits, pointRows, bidRows}
@@ -10,29 +9,37 @@ use Rattle.bids.proofs.bids.bid_refusal.Statement.{statement}
 use Rattle.bids.proofs.bids.bid_refusal.Tie as tie
 
 differential-fits-requires : tie.Need-differential-fits-requires
-differential-fits-requires c κs = search needs
+differential-fits-requires c κs = tt
 
 pick-requires : tie.Need-pick-requires
-pick-requires c κs = search needs
+pick-requires c κs = tt
 
 points-refusal-requires : tie.Need-points-refusal-requires
-points-refusal-requires c κs = search needs
+points-refusal-requires c κs = tt
 
 or-else-requires : tie.Need-or-else-requires
-or-else-requires c κs = search needs
+or-else-requires c κs = tt
 
 is-kind-requires : tie.Need-is-kind-requires
-is-kind-requires c κs = search needs
+is-kind-requires c κs = tt
 
 pick-requires-2 : tie.Need-pick-requires-2
-pick-requires-2 c κs = search needs
+pick-requires-2 c κs = tt
 
 returns : tie.Need-returns
 unfolding first bidRows
 returns c =
     let s = c .before .before .before .before .before .before .before .args in
     let last = row 8 (not (differentialFits (s .kind) (s .differential))) ∷ [] in
-    cc (first-append (pointRows (s .mwh .now) (s .prices .now)) last (point-rows-numbered (s .mwh .now) (s .prices .now)))
+    rw (
+      c .pick2 .ensures,
+      c .before .is-kind .ensures,
+      c .before .before .or-else .ensures,
+      c .before .before .before .points-refusal .ensures,
+      c .before .before .before .before .pick .ensures,
+      c .before .before .before .before .before .differential-fits .ensures,
+      first-append (pointRows (s .mwh .now) (s .prices .now)) last (point-rows-numbered (s .mwh .now) (s .prices .now)),
+    )
 
 pub bid-refusal-spec : {M : Type 1} → statement M
 bid-refusal-spec =

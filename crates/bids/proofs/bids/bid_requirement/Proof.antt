@@ -1,6 +1,5 @@
 -- `bids::bid_requirement`: each kind by its own formula.
 use mathlib.Core.Path.{sym, ap, _∙_}
-use borrow.Author.Needs.{needs}
 use Rattle.amounts.proofs.Steps.{back}
 use Rattle.bids.specs.Bids.{unlessExempt, bidRequirement}
 use Rattle.bids.proofs.ByKind.{kind-1, kind-2, kind-3, kind-4}
@@ -8,19 +7,19 @@ use Rattle.bids.proofs.bids.bid_requirement.Statement.{statement}
 use Rattle.bids.proofs.bids.bid_requirement.Tie as tie
 
 import-bid-requires : tie.Need-import-bid-requires
-import-bid-requires c κs = search needs
+import-bid-requires c κs = search
 
 export-bid-requires : tie.Need-export-bid-requires
-export-bid-requires c κs = search needs
+export-bid-requires c κs = search
 
 hour-ahead-bid-requires : tie.Need-hour-ahead-bid-requires
-hour-ahead-bid-requires c κs = search needs
+hour-ahead-bid-requires c κs = search
 
 wheel-exposure-requires : tie.Need-wheel-exposure-requires
-wheel-exposure-requires c κs = search needs
+wheel-exposure-requires c κs = search
 
 unless-exempt-requires : tie.Need-unless-exempt-requires
-unless-exempt-requires c κs = search needs
+unless-exempt-requires c κs = tt
 
 returns : tie.Need-returns
 unfolding bidRequirement

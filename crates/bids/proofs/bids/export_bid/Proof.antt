@@ -2,7 +2,6 @@
 use mathlib.Core.Path.{ap, _∙_}
 use Prim.Native.Nat.{ℕ, _*_, _≤_}
 use native.Mathlib.Omega.{arith}
-use borrow.Author.Needs.{needs}
 use borrow.Author.Tests.{leb-true}
 use lib.IntN.{pos}
 use Rattle.amounts.specs.Amount.{Max}
@@ -14,7 +13,7 @@ use Rattle.bids.proofs.bids.export_bid.Statement.{statement}
 use Rattle.bids.proofs.bids.export_bid.Tie as tie
 
 exposure-requires : tie.Need-exposure-requires
-exposure-requires c κs = search needs
+exposure-requires c κs = search
 
 by-price-small : (c : tie.After-exposure) → c .exposure .result ≤ 640000000000
 by-price-small c = exposed-small (fit (c .before .before .pre .0)) (c .exposure .ensures)
@@ -23,7 +22,7 @@ cast-by-price : tie.Need-cast-by-price
 cast-by-price c = record { sfits = omega (arith, by-price-small c) }
 
 total-mwh-requires : tie.Need-total-mwh-requires
-total-mwh-requires c κs = search needs
+total-mwh-requires c κs = search
 
 by-differential-small : (c : tie.After-total-mwh) → c .total-mwh .result * c .before .before .before .args .differential ≤ 640000000000
 by-differential-small c =
@@ -37,7 +36,7 @@ cast-by-differential : tie.Need-cast-by-differential
 cast-by-differential c = record { sfits = omega (arith, by-differential-small c) }
 
 larger-requires : tie.Need-larger-requires
-larger-requires c κs = search needs
+larger-requires c κs = tt
 
 returns : tie.Need-returns
 unfolding exportBid

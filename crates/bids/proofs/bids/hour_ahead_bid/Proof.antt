@@ -2,7 +2,6 @@
 use mathlib.Core.Path.{ap, _∙_}
 use Prim.Native.Nat.{_≤_}
 use native.Mathlib.Omega.{arith}
-use borrow.Author.Needs.{needs}
 use lib.IntN.{pos}
 use Rattle.amounts.proofs.Steps.{quantity}
 use Rattle.bids.specs.Bids.{hourAheadBid}
@@ -12,7 +11,7 @@ use Rattle.bids.proofs.bids.hour_ahead_bid.Statement.{statement}
 use Rattle.bids.proofs.bids.hour_ahead_bid.Tie as tie
 
 exposure-requires : tie.Need-exposure-requires
-exposure-requires c κs = search needs
+exposure-requires c κs = search
 
 small : (c : tie.After-exposure) → c .exposure .result ≤ 640000000000
 small c = exposed-small (fit (c .before .before .pre)) (c .exposure .ensures)

@@ -2,7 +2,6 @@
 use mathlib.Core.Path.{ap, _∙_}
 use Prim.Native.Nat.{ℕ, _*_, _≤_}
 use native.Mathlib.Omega.{arith}
-use borrow.Author.Needs.{needs}
 use borrow.Author.Tests.{leb-true}
 use lib.IntN.{pos}
 use Rattle.amounts.proofs.Steps.{quantity}
@@ -12,7 +11,7 @@ use Rattle.bids.proofs.bids.import_bid.Statement.{statement}
 use Rattle.bids.proofs.bids.import_bid.Tie as tie
 
 largest-mwh-requires : tie.Need-largest-mwh-requires
-largest-mwh-requires c κs = search needs
+largest-mwh-requires c κs = search
 
 small : (c : tie.After-largest-mwh) → c .largest-mwh .result * c .before .before .args .differential ≤ 10000000000
 small c =

@@ -2,7 +2,6 @@
 use mathlib.Core.Path.{sym, subst, _∙_}
 use Prim.Native.Nat.{ℕ, _≤_}
 use native.Mathlib.Omega.{arith}
-use borrow.Author.Needs.{needs}
 use Rattle.amounts.proofs.Steps.{quantity}
 use Rattle.refusals.specs.Refusals.{None, First}
 use Rattle.refusals.proofs.Laws.{first-applies, none-applies}
@@ -13,7 +12,7 @@ use Rattle.bids.proofs.bids.price_exposure.Statement.{statement}
 use Rattle.bids.proofs.bids.price_exposure.Tie as tie
 
 points-refusal-requires : tie.Need-points-refusal-requires
-points-refusal-requires c κs = search needs
+points-refusal-requires c κs = tt
 
 returns : tie.Need-returns
 unfolding Exposed

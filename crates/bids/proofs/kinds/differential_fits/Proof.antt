@@ -1,13 +1,12 @@
 -- `kinds::differential_fits`: the range test answers its limit.
-use borrow.Author.Needs.{needs}
 use Rattle.bids.proofs.kinds.differential_fits.Statement.{statement}
 use Rattle.bids.proofs.kinds.differential_fits.Tie as tie
 
 in-range-requires : tie.Need-in-range-requires
-in-range-requires c κs = search needs
+in-range-requires c κs = tt
 
 returns : tie.Need-returns
-returns c = cc
+returns c = rw (c .in-range .ensures)
 
 pub differential-fits-spec : {M : Type 1} → statement M
 differential-fits-spec = tie.close (tie.spec in-range-requires returns)

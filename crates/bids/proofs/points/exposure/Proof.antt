@@ -3,7 +3,6 @@ use mathlib.Core.Path.{_≡_, sym, ap, subst, _∙_}
 use mathlib.Core.List.{List}
 use Prim.Native.Nat.{ℕ, _≤_, _-_, _*_, max}
 use native.Mathlib.Omega.{arith}
-use borrow.Author.Needs.{needs}
 use lib.ListN.{length}
 use Rattle.amounts.specs.Amount.{up}
 use Rattle.amounts.proofs.Signed.{mul-mono}
@@ -33,10 +32,10 @@ point-requires : tie.Need-point-requires Inv-loop μ-loop
 point-requires c κs = let f = fit (c .before .before .before .pre) in omega arith
 
 tried-price-requires : tie.Need-tried-price-requires Inv-loop μ-loop
-tried-price-requires c κs = search needs
+tried-price-requires c κs = tt
 
 mwh-at-or-above-requires : tie.Need-mwh-at-or-above-requires Inv-loop μ-loop
-mwh-at-or-above-requires c κs = search needs
+mwh-at-or-above-requires c κs = search
 
 -- what is tried at a price
 at-price : (l : List Point) {p q m : ℕ} → p ≡ q → m ≡ mwhAt p l → p * m ≡ q * mwhAt q l
@@ -64,7 +63,7 @@ mul-larger : tie.Need-mul-larger Inv-loop μ-loop
 mul-larger c = rw (tries c) (omega (arith, small c))
 
 larger-requires : tie.Need-larger-requires Inv-loop μ-loop
-larger-requires c κs = search needs
+larger-requires c κs = tt
 
 loop-less : tie.Need-loop-less Inv-loop μ-loop
 loop-less c = omega arith

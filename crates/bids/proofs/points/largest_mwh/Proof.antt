@@ -2,7 +2,6 @@
 use mathlib.Core.Path.{_≡_, sym, ap, _∙_}
 use Prim.Native.Nat.{_≤_, _-_, max}
 use native.Mathlib.Omega.{arith}
-use borrow.Author.Needs.{needs}
 use lib.ListN.{length}
 use Rattle.bids.specs.Points.{largestMwh}
 use Rattle.bids.proofs.Curves.{fit}
@@ -27,7 +26,7 @@ point-requires : tie.Need-point-requires Inv-loop μ-loop
 point-requires c κs = let f = fit (c .before .before .before .pre) in omega arith
 
 larger-requires : tie.Need-larger-requires Inv-loop μ-loop
-larger-requires c κs = search needs
+larger-requires c κs = tt
 
 loop-less : tie.Need-loop-less Inv-loop μ-loop
 loop-less c = omega arith

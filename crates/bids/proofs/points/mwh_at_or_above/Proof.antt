@@ -2,7 +2,6 @@
 use mathlib.Core.Path.{_≡_, sym, ap, _∙_}
 use Prim.Native.Nat.{_≤_, _-_, _+_, _*_}
 use native.Mathlib.Omega.{arith}
-use borrow.Author.Needs.{needs}
 use lib.ListN.{length}
 use Rattle.bids.specs.Points.{mwhAt}
 use Rattle.bids.proofs.Curves.{fit, fit-share}
@@ -30,7 +29,7 @@ point-requires : tie.Need-point-requires Inv-loop μ-loop
 point-requires c κs = let f = fit (c .before .before .before .pre) in omega arith
 
 share-requires : tie.Need-share-requires Inv-loop μ-loop
-share-requires c κs = search needs
+share-requires c κs = tt
 
 -- the point at i - 1 brings at most 10,000 MWh
 small : (c : tie.After-share Inv-loop μ-loop) → c .share .result ≤ 10000

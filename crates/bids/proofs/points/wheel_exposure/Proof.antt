@@ -2,7 +2,6 @@
 use mathlib.Core.Path.{_≡_, sym, ap, _∙_}
 use Prim.Native.Nat.{_≤_, _-_}
 use native.Mathlib.Omega.{arith}
-use borrow.Author.Needs.{needs}
 use lib.ListN.{length}
 use mir.Syntax.{w64}
 use mir.Val.{toZ}
@@ -34,7 +33,7 @@ wheel-cents-requires : tie.Need-wheel-cents-requires Inv-loop μ-loop
 wheel-cents-requires c κs = fit-point (fit (c .before .before .before .before .pre)) (c .before .before .loop .i - 1) (c .point .ensures)
 
 larger-requires : tie.Need-larger-requires Inv-loop μ-loop
-larger-requires c κs = search needs
+larger-requires c κs = tt
 
 loop-less : tie.Need-loop-less Inv-loop μ-loop
 loop-less c = omega arith

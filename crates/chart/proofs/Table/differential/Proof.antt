@@ -11,13 +11,13 @@ use Rattle.chart.proofs.Table.differential.Statement.{statement}
 use Rattle.chart.proofs.Table.differential.Tie as tie
 
 start-requires : tie.Need-start-requires
-start-requires c κs = search needs
+start-requires c κs = tt
 
 start-low : (c : tie.After-start) → c .start .result ≤ 180
 start-low c = le-trans (le-of-eq (c .start .ensures)) (start-last (c .before .args .self))
 
 sub-place : tie.Need-sub-place
-sub-place c = search needs
+sub-place c = search
 
 mul-place : tie.Need-mul-place
 mul-place c = search needs
@@ -26,7 +26,7 @@ add-place : tie.Need-add-place
 add-place c = omega (arith, start-low c)
 
 sub-place-2 : tie.Need-sub-place-2
-sub-place-2 c = search needs
+sub-place-2 c = search
 
 add-place-2 : tie.Need-add-place-2
 add-place-2 c = omega (arith, start-low c)

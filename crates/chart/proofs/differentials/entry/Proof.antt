@@ -9,7 +9,7 @@ mul-result : tie.Need-mul-result
 mul-result c = search needs
 
 array-read-result : tie.Need-array-read-result
-array-read-result c = search needs
+array-read-result c = search
 
 returns : tie.Need-returns
 unfolding published importTable exportTable

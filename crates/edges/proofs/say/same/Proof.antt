@@ -27,7 +27,7 @@ element-copy-out-other : tie.Need-element-copy-out-other Inv-loop μ-loop
 element-copy-out-other c = search needs
 
 same-record-requires : tie.Need-same-record-requires Inv-loop μ-loop
-same-record-requires c κs = search needs
+same-record-requires c κs = tt
 
 returns : tie.Need-returns Inv-loop μ-loop
 returns c = search needs

@@ -1,5 +1,4 @@
 -- `formulas::stages::balance`: the code is the formula, step by step, and each step fits.
-use borrow.Author.Needs.{needs}
 use Rattle.amounts.proofs.Steps.{fits, kept, got, lit0, _minus_, _times_, _larger_}
 use Rattle.formulas.specs.Stages.{balancing}
 use Rattle.formulas.proofs.Given.{mwh, mwh-cast, price}
@@ -21,7 +20,7 @@ mul-floored c =
     fits (kept gap tt times price (c .fits .real-time) (c .pre .1 .1)) tt
 
 floored-requires : tie.Need-floored-requires
-floored-requires c κs = search needs
+floored-requires c κs = tt
 
 returns : tie.Need-returns
 unfolding balancing

@@ -1,5 +1,4 @@
 -- `formulas::stages::bill_refusal`: the pick is the row.
-use borrow.Author.Needs.{needs}
 use mir.Facts.{toZ-ofZ}
 use Rattle.refusals.specs.Refusals.{first}
 use Rattle.formulas.specs.Rows.{billRows}
@@ -7,14 +6,14 @@ use Rattle.formulas.proofs.stages.bill_refusal.Statement.{statement}
 use Rattle.formulas.proofs.stages.bill_refusal.Tie as tie
 
 is-bill-requires : tie.Need-is-bill-requires
-is-bill-requires c κs = search needs
+is-bill-requires c κs = tt
 
 pick-requires : tie.Need-pick-requires
-pick-requires c κs = search needs
+pick-requires c κs = tt
 
 returns : tie.Need-returns
 unfolding first billRows
-returns c = cc (toZ-ofZ (c .before .before .fits .amount))
+returns c = rw (← toZ-ofZ (c .before .before .fits .amount), c .pick .ensures, c .before .is-bill .ensures)
 
 pub bill-refusal-spec : {M : Type 1} → statement M
 bill-refusal-spec = tie.close (tie.spec is-bill-requires pick-requires returns)

@@ -1,5 +1,4 @@
 -- `formulas::stages::billed`: each arm is the verdict by the number that the rows give.
-use borrow.Author.Needs.{needs}
 use mathlib.Core.Path.{_≡_, sym, ap, _∙_}
 use mir.Facts.{toZ-ofZ}
 use Rattle.refusals.specs.Refusals.{first}
@@ -11,11 +10,11 @@ use Rattle.formulas.proofs.stages.billed.Statement.{statement}
 use Rattle.formulas.proofs.stages.billed.Tie as tie
 
 bill-refusal-requires : tie.Need-bill-refusal-requires
-bill-refusal-requires c κs = search needs
+bill-refusal-requires c κs = tt
 
 -- the number is that of the amount itself
 number : (c : tie.After-bill-refusal) → c .bill-refusal .result ≡ first (billRows (c .before .args .amount))
-number c = cc (toZ-ofZ (c .before .fits .amount))
+number c = rw (c .bill-refusal .ensures, toZ-ofZ (c .before .fits .amount))
 
 returns : tie.Need-returns
 returns c =

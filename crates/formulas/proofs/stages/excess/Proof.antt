@@ -1,5 +1,4 @@
 -- `formulas::stages::excess`: the code is the formula, and the difference of two quantities fits.
-use borrow.Author.Needs.{needs}
 use Rattle.amounts.proofs.Steps.{fits, kept, got, lit0, _minus_, _larger_}
 use Rattle.formulas.proofs.Given.{mwh, mwh-cast}
 use Rattle.formulas.proofs.stages.excess.Statement.{statement}
@@ -15,7 +14,7 @@ sub-floored : tie.Need-sub-floored
 sub-floored c = fits (mwh (c .args .mwh) (c .pre .0) minus mwh (c .args .other) (c .pre .1)) tt
 
 floored-requires : tie.Need-floored-requires
-floored-requires c κs = search needs
+floored-requires c κs = tt
 
 returns : tie.Need-returns
 returns c =

@@ -1,16 +1,15 @@
 -- `formulas::stages::export_finished`: the posted amount and the two balancing amounts are in range, so each step fits.
-use borrow.Author.Needs.{needs}
 use mathlib.Core.Path.{ap, _∙_}
 use mir.Facts.{toZ-ofZ}
 use Rattle.amounts.proofs.Steps.{Known, fits, kept, known, _plus_, _minus_}
 use Rattle.formulas.specs.Stages.{balancing, exportFinished}
-use Rattle.formulas.proofs.Given.{pending}
+use Rattle.formulas.proofs.Given.{pending, handed-price}
 use Rattle.formulas.proofs.StageLaws.{balancing-range}
 use Rattle.formulas.proofs.stages.export_finished.Statement.{statement}
 use Rattle.formulas.proofs.stages.export_finished.Tie as tie
 
 balance-requires : tie.Need-balance-requires
-balance-requires c κs = search needs
+balance-requires c κs = (search, (search, search handed-price))
 
 less : (c : tie.After-balance) → Known (c .balance .result) (balancing (c .before .args .schedule) (c .before .args .actual) (c .before .args .real-time)) 0 640000000000
 less c =
@@ -30,7 +29,7 @@ sub-result : tie.Need-sub-result
 sub-result c = fits (pending (c .before .fits .posted-cents) (c .before .pre .0) minus kept (less c) tt) tt
 
 balance-requires-2 : tie.Need-balance-requires-2
-balance-requires-2 c κs = search needs
+balance-requires-2 c κs = (search, (search, search handed-price))
 
 add-result : tie.Need-add-result
 add-result c =

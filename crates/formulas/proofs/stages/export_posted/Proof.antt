@@ -1,5 +1,4 @@
 -- `formulas::stages::export_posted`: the code is the formula, and its product fits.
-use borrow.Author.Needs.{needs}
 use Rattle.amounts.proofs.Steps.{fits, kept, got, _times_, _larger_}
 use Rattle.formulas.specs.Stages.{exportPosted}
 use Rattle.formulas.proofs.Given.{mwh, mwh-cast, differential, differential-cast, price}
@@ -13,7 +12,7 @@ cast-larger : tie.Need-cast-larger
 cast-larger c = differential-cast (c .args .differential) (c .pre .1 .1)
 
 larger-requires : tie.Need-larger-requires
-larger-requires c κs = search needs
+larger-requires c κs = tt
 
 mul-result : tie.Need-mul-result
 mul-result c =

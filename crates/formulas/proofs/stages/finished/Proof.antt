@@ -1,5 +1,4 @@
 -- `formulas::stages::finished`: each arm is the verdict by the number that the rows give.
-use borrow.Author.Needs.{needs}
 use mathlib.Core.Path.{_≡_, sym, ap, _∙_}
 use mathlib.Core.List.{_∷_}
 use mir.Facts.{toZ-ofZ}
@@ -14,13 +13,13 @@ use Rattle.formulas.proofs.stages.finished.Statement.{statement}
 use Rattle.formulas.proofs.stages.finished.Tie as tie
 
 finished-refusal-requires : tie.Need-finished-refusal-requires
-finished-refusal-requires c κs = search needs
+finished-refusal-requires c κs = tt
 
 -- the number is that of the prices and the amount themselves
 number : (c : tie.After-finished-refusal) → let a = c .before .args in c .finished-refusal .result ≡ first (kindRow (a .kind) ∷ finishedRows (a .kind) (a .schedule) (a .day-ahead) (a .posted-cents) (a .actual) (a .price) (a .second))
 number c =
     let f = c .before .fits in
-    cc (toZ-ofZ (f .day-ahead), toZ-ofZ (f .posted-cents), toZ-ofZ (f .price), toZ-ofZ (f .second))
+    rw (c .finished-refusal .ensures, toZ-ofZ (f .day-ahead), toZ-ofZ (f .posted-cents), toZ-ofZ (f .price), toZ-ofZ (f .second))
 
 none : (c : tie.Then1) → let a = c .before .before .args in None (kindRow (a .kind) ∷ finishedRows (a .kind) (a .schedule) (a .day-ahead) (a .posted-cents) (a .actual) (a .price) (a .second))
 none c =
@@ -39,13 +38,14 @@ returns : tie.Need-returns
 returns c =
     let s = c .before .before .before in
     let a = s .args in
-    cc (
-      finished-accepted (a .kind) (a .exempt) (a .schedule) (a .day-ahead) (a .posted-cents) (a .actual) (a .price) (a .second) (none (c .before)),
+    rw (
       back (c .finished-requirement .result) (c .finished-requirement .ok),
+      c .finished-requirement .ensures,
       toZ-ofZ (s .fits .day-ahead),
       toZ-ofZ (s .fits .posted-cents),
       toZ-ofZ (s .fits .price),
       toZ-ofZ (s .fits .second),
+      finished-accepted (a .kind) (a .exempt) (a .schedule) (a .day-ahead) (a .posted-cents) (a .actual) (a .price) (a .second) (none (c .before)),
     )
 
 returns-2 : tie.Need-returns-2

@@ -1,5 +1,4 @@
 -- `formulas::stages::finished_requirement`: where no row applies the numbers are in range, and each arm is its kind's formula.
-use borrow.Author.Needs.{needs}
 use mathlib.Core.Path.{_≡_, sym, ap, _∙_}
 use mir.Facts.{toZ-ofZ}
 use Rattle.amounts.proofs.Steps.{back}
@@ -22,7 +21,7 @@ import-finished-requires c κs =
     (g .schedule, (handed-price (s .fits .day-ahead) (g .kept), (g .actual, handed-price (s .fits .price) (g .prices .first))))
 
 unless-exempt-requires : tie.Need-unless-exempt-requires
-unless-exempt-requires c κs = search needs
+unless-exempt-requires c κs = tt
 
 export-finished-requires : tie.Need-export-finished-requires
 export-finished-requires c κs =
@@ -77,7 +76,9 @@ returns-3 c =
 
 -- the wheel's amount, of the prices and the posted amount themselves
 wheel : (c : tie.After-wheel-finished) → let a = c .before .before .args in c .wheel-finished .result ≡ wheelFinished (a .posted-cents) (a .schedule) (a .actual) (a .price) (a .second)
-wheel c = let f = c .before .before .fits in cc (toZ-ofZ (f .posted-cents), toZ-ofZ (f .price), toZ-ofZ (f .second))
+wheel c =
+    let f = c .before .before .fits in
+    rw (c .wheel-finished .ensures, toZ-ofZ (f .posted-cents), toZ-ofZ (f .price), toZ-ofZ (f .second))
 
 returns-4 : tie.Need-returns-4
 unfolding finishedRequirement

@@ -1,5 +1,4 @@
 -- `formulas::stages::hour_ahead_finished`: the code is the formula, and its product fits.
-use borrow.Author.Needs.{needs}
 use Rattle.amounts.proofs.Steps.{fits, kept, got, lit0, _times_, _larger_}
 use Rattle.formulas.specs.Stages.{hourAheadFinished}
 use Rattle.formulas.proofs.Given.{mwh, mwh-cast, price}
@@ -13,7 +12,7 @@ mul-floored : tie.Need-mul-floored
 mul-floored c = fits (mwh (c .args .actual) (c .pre .0) times price (c .fits .real-time) (c .pre .1)) tt
 
 floored-requires : tie.Need-floored-requires
-floored-requires c κs = search needs
+floored-requires c κs = tt
 
 returns : tie.Need-returns
 unfolding hourAheadFinished

@@ -1,5 +1,4 @@
 -- `formulas::stages::import_finished`: the balancing amount less the Day-Ahead sale, floored; both are in range, so each step fits.
-use borrow.Author.Needs.{needs}
 use mathlib.Core.Path.{ap, _∙_}
 use mir.Facts.{toZ-ofZ}
 use lib.IntN.{pos, _*ℤ_}
@@ -7,13 +6,13 @@ use mir.Syntax.{w64}
 use mir.Val.{toZ, ofZ}
 use Rattle.amounts.proofs.Steps.{Known, fits, kept, got, known, lit0, _minus_, _times_, _larger_}
 use Rattle.formulas.specs.Stages.{balancing, importFinished}
-use Rattle.formulas.proofs.Given.{mwh, mwh-cast, price}
+use Rattle.formulas.proofs.Given.{mwh, mwh-cast, price, handed-price}
 use Rattle.formulas.proofs.StageLaws.{balancing-range}
 use Rattle.formulas.proofs.stages.import_finished.Statement.{statement}
 use Rattle.formulas.proofs.stages.import_finished.Tie as tie
 
 balance-requires : tie.Need-balance-requires
-balance-requires c κs = search needs
+balance-requires c κs = (search, (search, search handed-price))
 
 sale : (s : tie.Start) → Known (toZ w64 (s .args .schedule) *ℤ toZ w64 (ofZ w64 (s .args .day-ahead))) (pos (s .args .schedule) *ℤ s .args .day-ahead) 640000000000 640000000000
 sale s = mwh (s .args .schedule) (s .pre .0) times price (s .fits .day-ahead) (s .pre .1 .0)
@@ -35,7 +34,7 @@ sub-floored : tie.Need-sub-floored
 sub-floored c = fits (kept (balanced c) tt minus kept (sale (c .before)) tt) tt
 
 floored-requires : tie.Need-floored-requires
-floored-requires c κs = search needs
+floored-requires c κs = tt
 
 returns : tie.Need-returns
 unfolding importFinished

@@ -1,17 +1,16 @@
 -- `formulas::stages::pending_fits`: each range test answers its limit, of the amount that was handed to it.
-use borrow.Author.Needs.{needs}
 use mir.Facts.{toZ-ofZ}
 use Rattle.formulas.proofs.stages.pending_fits.Statement.{statement}
 use Rattle.formulas.proofs.stages.pending_fits.Tie as tie
 
 is-bid-requires : tie.Need-is-bid-requires
-is-bid-requires c κs = search needs
+is-bid-requires c κs = tt
 
 is-wheel-requires : tie.Need-is-wheel-requires
-is-wheel-requires c κs = search needs
+is-wheel-requires c κs = tt
 
 returns : tie.Need-returns
-returns c = cc (toZ-ofZ (c .before .before .fits .cents))
+returns c = rw (← toZ-ofZ (c .before .before .fits .cents), c .is-wheel .ensures, c .before .is-bid .ensures)
 
 pub pending-fits-spec : {M : Type 1} → statement M
 pending-fits-spec = tie.close (tie.spec is-bid-requires is-wheel-requires returns)

@@ -1,5 +1,4 @@
 -- `formulas::stages::posted`: each arm is the verdict by the number that the rows give.
-use borrow.Author.Needs.{needs}
 use mathlib.Core.Path.{_≡_, sym, ap, _∙_}
 use mathlib.Core.List.{_∷_}
 use mir.Facts.{toZ-ofZ}
@@ -14,11 +13,11 @@ use Rattle.formulas.proofs.stages.posted.Statement.{statement}
 use Rattle.formulas.proofs.stages.posted.Tie as tie
 
 posted-refusal-requires : tie.Need-posted-refusal-requires
-posted-refusal-requires c κs = search needs
+posted-refusal-requires c κs = tt
 
 -- the number is that of the prices themselves
 number : (c : tie.After-posted-refusal) → let a = c .before .args in c .posted-refusal .result ≡ first (kindRow (a .kind) ∷ postedRows (a .kind) (a .differential) (a .schedule) (a .price) (a .second))
-number c = cc (toZ-ofZ (c .before .fits .price), toZ-ofZ (c .before .fits .second))
+number c = rw (c .posted-refusal .ensures, toZ-ofZ (c .before .fits .price), toZ-ofZ (c .before .fits .second))
 
 none : (c : tie.Then1) → let a = c .before .before .args in None (kindRow (a .kind) ∷ postedRows (a .kind) (a .differential) (a .schedule) (a .price) (a .second))
 none c =
@@ -37,11 +36,12 @@ returns : tie.Need-returns
 returns c =
     let s = c .before .before .before in
     let a = s .args in
-    cc (
-      posted-accepted (a .kind) (a .differential) (a .exempt) (a .schedule) (a .price) (a .second) (none (c .before)),
+    rw (
       back (c .posted-requirement .result) (c .posted-requirement .ok),
+      c .posted-requirement .ensures,
       toZ-ofZ (s .fits .price),
       toZ-ofZ (s .fits .second),
+      posted-accepted (a .kind) (a .differential) (a .exempt) (a .schedule) (a .price) (a .second) (none (c .before)),
     )
 
 returns-2 : tie.Need-returns-2

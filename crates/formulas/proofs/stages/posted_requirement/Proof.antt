@@ -1,5 +1,4 @@
 -- `formulas::stages::posted_requirement`: where no row applies the numbers are in range, and each arm is its kind's formula.
-use borrow.Author.Needs.{needs}
 use mathlib.Core.Path.{sym, ap, _∙_}
 use mir.Facts.{toZ-ofZ}
 use Rattle.amounts.proofs.Steps.{back}
@@ -17,7 +16,7 @@ import-posted-requires : tie.Need-import-posted-requires
 import-posted-requires c κs = let g = given (c .before) in (g .schedule, g .differential)
 
 unless-exempt-requires : tie.Need-unless-exempt-requires
-unless-exempt-requires c κs = search needs
+unless-exempt-requires c κs = tt
 
 export-posted-requires : tie.Need-export-posted-requires
 export-posted-requires c κs =

@@ -1,20 +1,21 @@
 -- `formulas::stages::prices_fit`: each of the three tests answers its limit, of the price that was handed to it.
-use borrow.Author.Needs.{needs}
 use mir.Facts.{toZ-ofZ}
 use Rattle.formulas.proofs.stages.prices_fit.Statement.{statement}
 use Rattle.formulas.proofs.stages.prices_fit.Tie as tie
 
 in-range-requires : tie.Need-in-range-requires
-in-range-requires c κs = search needs
+in-range-requires c κs = tt
 
 in-range-requires-2 : tie.Need-in-range-requires-2
-in-range-requires-2 c κs = search needs
+in-range-requires-2 c κs = tt
 
 is-nil-requires : tie.Need-is-nil-requires
-is-nil-requires c κs = search needs
+is-nil-requires c κs = tt
 
 returns : tie.Need-returns
-returns c = let s = c .before .before .before in cc (toZ-ofZ (s .fits .price), toZ-ofZ (s .fits .second))
+returns c =
+    let s = c .before .before .before in
+    rw (← toZ-ofZ (s .fits .price), ← toZ-ofZ (s .fits .second), c .is-nil .ensures, c .before .in-range2 .ensures, c .before .before .in-range .ensures)
 
 pub prices-fit-spec : {M : Type 1} → statement M
 prices-fit-spec =

@@ -1,5 +1,4 @@
 -- `formulas::stages::wheel_finished`: the code is the formula, step by step, and each step fits.
-use borrow.Author.Needs.{needs}
 use lib.IntN.{pos, _-ℤ_}
 use mir.Syntax.{w64}
 use mir.Val.{toZ, ofZ}
@@ -24,19 +23,19 @@ sub-difference : tie.Need-sub-difference
 sub-difference c = fits (difference c) tt
 
 excess-requires : tie.Need-excess-requires
-excess-requires c κs = search needs
+excess-requires c κs = (search, search)
 
 mul-less : tie.Need-mul-less
 mul-less c = fits (kept (below c) tt times kept (difference (c .before)) tt) tt
 
 excess-requires-2 : tie.Need-excess-requires-2
-excess-requires-2 c κs = search needs
+excess-requires-2 c κs = (search, search)
 
 mul-floored : tie.Need-mul-floored
 mul-floored c = fits (kept (over c) tt times kept (difference (c .before .before)) tt) tt
 
 floored-requires : tie.Need-floored-requires
-floored-requires c κs = search needs
+floored-requires c κs = tt
 
 sub-result : tie.Need-sub-result
 sub-result c =

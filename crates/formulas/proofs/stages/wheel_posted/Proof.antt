@@ -1,5 +1,4 @@
 -- `formulas::stages::wheel_posted`: the code is the formula, step by step, and each step fits.
-use borrow.Author.Needs.{needs}
 use Rattle.amounts.proofs.Steps.{fits, kept, got, lit0, _minus_, _times_, _larger_}
 use Rattle.formulas.specs.Stages.{wheelPosted}
 use Rattle.formulas.proofs.Given.{mwh, mwh-cast, price}
@@ -18,7 +17,7 @@ mul-floored c =
     fits (mwh (c .args .schedule) (c .pre .0) times kept difference tt) tt
 
 floored-requires : tie.Need-floored-requires
-floored-requires c κs = search needs
+floored-requires c κs = tt
 
 returns : tie.Need-returns
 unfolding wheelPosted

@@ -1,18 +1,17 @@
 -- `plans::stage_refusal` picks row by row, as `first` does.
-use borrow.Author.Needs.{needs}
 use Rattle.refusals.specs.Refusals.{first}
 use Rattle.plans.specs.Plan.{stageRows}
 use Rattle.plans.proofs.plans.stage_refusal.Statement.{statement}
 use Rattle.plans.proofs.plans.stage_refusal.Tie as tie
 
 is-free-requires : tie.Need-is-free-requires
-is-free-requires c κs = search needs
+is-free-requires c κs = tt
 
 pick-requires : tie.Need-pick-requires
-pick-requires c κs = search needs
+pick-requires c κs = tt
 
 pick-requires-2 : tie.Need-pick-requires-2
-pick-requires-2 c κs = search needs
+pick-requires-2 c κs = tt
 
 returns : tie.Need-returns
 unfolding first stageRows

@@ -1,5 +1,4 @@
 -- `plans::withdraw`: its table is the key's rows over the stage's.
-use borrow.Author.Needs.{needs}
 use Rattle.refusals.specs.Refusals.{judge}
 use Rattle.plans.specs.Plan.{plan}
 use Rattle.plans.proofs.Tables.{key-above}
@@ -7,16 +6,16 @@ use Rattle.plans.proofs.plans.withdraw.Statement.{statement}
 use Rattle.plans.proofs.plans.withdraw.Tie as tie
 
 refusal-requires : tie.Need-refusal-requires
-refusal-requires c κs = search needs
+refusal-requires c κs = tt
 
 stage-refusal-requires : tie.Need-stage-refusal-requires
-stage-refusal-requires c κs = search needs
+stage-refusal-requires c κs = tt
 
 or-else-requires : tie.Need-or-else-requires
-or-else-requires c κs = search needs
+or-else-requires c κs = tt
 
 answer-requires : tie.Need-answer-requires
-answer-requires c κs = search needs
+answer-requires c κs = tt
 
 returns : tie.Need-returns
 unfolding plan judge

@@ -1,18 +1,17 @@
 -- `BidAnswer::bid`: by the case.
 use mathlib.Core.Path.{sym, ap}
-use borrow.Author.Needs.{needs}
 use Rattle.bids.specs.Entries.{bidOf}
 use Rattle.bids.proofs.types.BidAnswer.bid.Statement.{statement}
 use Rattle.bids.proofs.types.BidAnswer.bid.Tie as tie
 
 enum-known-self : tie.Need-enum-known-self
-enum-known-self c = search needs
+enum-known-self c = search
 
 enum-told : tie.Need-enum-told
-enum-told c = search needs
+enum-told c = search
 
 returns : tie.Need-returns
-returns c = search needs
+returns c = search
 
 returns-2 : tie.Need-returns-2
 returns-2 c = sym (ap bidOf (c .enum-told .given .1))

@@ -12,66 +12,63 @@ use Rattle.amounts.specs.Lists.{every}
 use Rattle.refusals.specs.Refusals.{first}
 use Rattle.refusals.proofs.Laws.{none-applies}
 use Rattle.records.specs.Records.{okPlace}
-use Rattle.book.specs.Books.{Book, Totals, totals, held, owed}
-use Rattle.book.specs.Ready.{Small}
-use Rattle.book.specs.Step.{Accepted, Refused, weighRows, done, outcome}
+use Rattle.weighing.proofs.Rows.{weigh-rows-numbered}
+use Rattle.weighing.specs.Bounds.{Small}
+use Rattle.weighing.specs.declared.types.Totals.{Totals}
+use Rattle.weighing.specs.Weighing.{weighRows}
+use Rattle.book.specs.Books.{Book, totals, held, owed}
+use Rattle.book.specs.Step.{Accepted, Refused, done, outcome}
 use Rattle.book.proofs.Kept.{sound-places}
 use Rattle.book.proofs.Endings.{ends-refused, ends-accepted, totals-small, weighed-refused, weighed-accepted}
-use Rattle.book.proofs.Verdicts.{weigh-rows-numbered}
 use Rattle.book.proofs.types.Book.carry.Statement.{statement}
 use Rattle.book.proofs.types.Book.carry.Tie as tie
 
-totals-requires : tie.Need-totals-requires
-totals-requires c κs = sound-places (c .args .self) (c .pre .0)
-
 weigh-requires : tie.Need-weigh-requires
 weigh-requires c κs =
-    let s = c .before in
-    (subst Small (sym (c .totals .ensures)) (totals-small (s .args .self) (s .pre .0) (simp length-map at (s .good .0 .1 .1 .0 .1 .0 .1))), s .pre .1 .light)
+    (subst Small (sym (c .pre .1 .0)) (totals-small (c .args .self) (c .pre .0) (simp length-map at (c .good .0 .1 .1 .0 .1 .0 .1))), c .pre .1 .1 .light)
 
 refused-requires : tie.Need-refused-requires
-refused-requires c κs = search needs
+refused-requires c κs = tt
 
 -- the row that the number is of
-weighed : (c : tie.After-weigh) → c .weigh .result ≡ first (weighRows (totals (c .before .before .args .self)) (c .before .before .args .deed))
-weighed c = c .weigh .ensures ∙ ap (λ (t : Totals). first (weighRows t (c .before .before .args .deed))) (c .before .totals .ensures)
+weighed : (c : tie.After-weigh) → c .weigh .result ≡ first (weighRows (totals (c .before .args .self)) (c .before .args .deed))
+weighed c = c .weigh .ensures ∙ ap (λ (t : Totals). first (weighRows t (c .before .args .deed))) (c .before .pre .1 .0)
 
 returns : tie.Need-returns
 unfolding totals
 returns c =
     let w = c .before .before .before .before in
-    let s = w .before .before in
+    let s = w .before in
     let b = s .args .self in
     let n = w .weigh .result in
-    let t = w .before .totals in
-    let h : SFits w64 (t .result .held) = search needs in
-    let o : SFits w64 (t .result .owed) = search needs in
+    let h : SFits w64 (s .args .totals .held) = search needs in
+    let o : SFits w64 (s .args .totals .owed) = search needs in
     c .refused .ensures
-    ∙ (λ i. record { book = b; answer = Refused n ((toZ-ofZ h ∙ ap (λ (x : Totals). x .held) (t .ensures)) i) ((toZ-ofZ o ∙ ap (λ (x : Totals). x .owed) (t .ensures)) i) })
+    ∙ (λ i. record { book = b; answer = Refused n ((toZ-ofZ h ∙ ap (λ (x : Totals). x .held) (s .pre .1 .0)) i) ((toZ-ofZ o ∙ ap (λ (x : Totals). x .owed) (s .pre .1 .0)) i) })
     ∙ ends-refused b n (s .pre .0)
     ∙ ap (outcome b) (sym (weighed-refused b (s .args .deed) n (weighed w) (eqb-false n 0 (not-true _ (c .before .before .before .if1 .taken)))))
 
 done-requires : tie.Need-done-requires
-done-requires c κs = search needs
+done-requires c κs = tt
 
 answered-by-requires : tie.Need-answered-by-requires
-answered-by-requires c κs = search needs
+answered-by-requires c κs = tt
 
 -- none of the rows applies
-passed : (c : tie.Else1) → first (weighRows (totals (c .before .before .before .args .self)) (c .before .before .before .args .deed)) ≡ 0
+passed : (c : tie.Else1) → first (weighRows (totals (c .before .before .args .self)) (c .before .before .args .deed)) ≡ 0
 passed c = sym (weighed (c .before)) ∙ eqb-true (c .before .weigh .result) 0 (not-false _ (c .if1 .left))
 
 accepted-requires : tie.Need-accepted-requires
 accepted-requires c κs =
     let e = c .before .before in
-    let s = e .before .before .before in
+    let s = e .before .before in
     subst (λ (x : Book). every okPlace (x .records) ≡ true) (sym (c .before .done .ensures))
-    (s .pre .1 .kept (none-applies (weighRows (totals (s .args .self)) (s .args .deed)) (weigh-rows-numbered (totals (s .args .self)) (s .args .deed)) (passed e)))
+    (s .pre .1 .1 .kept (none-applies (weighRows (totals (s .args .self)) (s .args .deed)) (weigh-rows-numbered (totals (s .args .self)) (s .args .deed)) (passed e)))
 
 returns-2 : tie.Need-returns-2
 returns-2 c =
     let e = c .before .before .before in
-    let s = e .before .before .before in
+    let s = e .before .before in
     let b = s .args .self in
     let a = c .before .answered-by in
     c .accepted .ensures
@@ -85,12 +82,4 @@ returns-2 c =
 pub carry-spec : {M : Type 1} → statement M
 carry-spec =
     tie.close
-    (tie.spec
-    totals-requires
-    weigh-requires
-    refused-requires
-    returns
-    done-requires
-    answered-by-requires
-    accepted-requires
-    returns-2)
+    (tie.spec weigh-requires refused-requires returns done-requires answered-by-requires accepted-requires returns-2)

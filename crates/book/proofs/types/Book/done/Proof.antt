@@ -13,13 +13,13 @@ enum-known-deed : tie.Need-enum-known-deed
 enum-known-deed c = search needs
 
 changed-requires : tie.Need-changed-requires
-changed-requires c κs = search needs
+changed-requires c κs = tt
 
 enum-known-deed-2 : tie.Need-enum-known-deed-2
 enum-known-deed-2 c = search needs
 
 funded-requires : tie.Need-funded-requires
-funded-requires c κs = search needs
+funded-requires c κs = tt
 
 returns : tie.Need-returns
 unfolding done
@@ -36,4 +36,4 @@ returns-2 c =
 pub done-spec : {M : Type 1} → statement M
 done-spec =
     tie.close
-    (tie.spec enum-known-deed changed-requires enum-known-deed-2 funded-requires returns returns-2)
+    (tie.spec enum-known-deed changed-requires returns enum-known-deed-2 funded-requires returns-2)

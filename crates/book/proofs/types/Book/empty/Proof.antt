@@ -1,5 +1,4 @@
 -- `Book::empty`: 256 free places.
-use borrow.Author.Needs.{needs}
 use lib.ListN.{replicate}
 use mir.Facts.{toZ-ofZ}
 use Rattle.book.specs.Books.{noRecords}
@@ -7,7 +6,7 @@ use Rattle.book.proofs.types.Book.empty.Statement.{statement}
 use Rattle.book.proofs.types.Book.empty.Tie as tie
 
 blank-requires : tie.Need-blank-requires
-blank-requires c κs = search needs
+blank-requires c κs = tt
 
 returns : tie.Need-returns
 unfolding noRecords

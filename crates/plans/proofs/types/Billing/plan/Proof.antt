@@ -1,5 +1,4 @@
 -- `plans::Billing::plan` answers its table's number, or the record at stage 4.
-use borrow.Author.Needs.{needs}
 use Rattle.amounts.proofs.Steps.{back}
 use Rattle.refusals.specs.Refusals.{judge}
 use Rattle.plans.specs.Plan.{plan}
@@ -7,13 +6,13 @@ use Rattle.plans.proofs.types.Billing.plan.Statement.{statement}
 use Rattle.plans.proofs.types.Billing.plan.Tie as tie
 
 moved-requires : tie.Need-moved-requires
-moved-requires c κs = search needs
+moved-requires c κs = tt
 
 refusal-requires : tie.Need-refusal-requires
-refusal-requires c κs = search needs
+refusal-requires c κs = tt
 
 answer-requires : tie.Need-answer-requires
-answer-requires c κs = search needs
+answer-requires c κs = tt
 
 returns : tie.Need-returns
 unfolding plan judge

@@ -1,27 +1,26 @@
 -- `plans::Billing::refusal`: its table is the key's rows over the amount's over the stage's.
-use borrow.Author.Needs.{needs}
 use Rattle.amounts.proofs.Steps.{back}
 use Rattle.plans.proofs.Tables.{key-above, bill-above}
 use Rattle.plans.proofs.types.Billing.refusal.Statement.{statement}
 use Rattle.plans.proofs.types.Billing.refusal.Tie as tie
 
 billed-requires : tie.Need-billed-requires
-billed-requires c κs = search needs
+billed-requires c κs = tt
 
 refusal-requires : tie.Need-refusal-requires
-refusal-requires c κs = search needs
+refusal-requires c κs = tt
 
 refusal-requires-2 : tie.Need-refusal-requires-2
-refusal-requires-2 c κs = search needs
+refusal-requires-2 c κs = tt
 
 stage-refusal-requires : tie.Need-stage-refusal-requires
-stage-refusal-requires c κs = search needs
+stage-refusal-requires c κs = tt
 
 or-else-requires : tie.Need-or-else-requires
-or-else-requires c κs = search needs
+or-else-requires c κs = tt
 
 or-else-requires-2 : tie.Need-or-else-requires-2
-or-else-requires-2 c κs = search needs
+or-else-requires-2 c κs = tt
 
 returns : tie.Need-returns
 returns c =

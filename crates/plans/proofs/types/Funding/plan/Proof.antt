@@ -1,7 +1,6 @@
 -- `plans::Funding::plan`: its table is row 9.
 use mathlib.Core.Bool.{Bool, cond, not}
 use mathlib.Core.Path.{ap, _∙_}
-use borrow.Author.Needs.{needs}
 use Rattle.amounts.proofs.Steps.{back}
 use Rattle.amounts.specs.Limits.{isSupport}
 use Rattle.refusals.specs.Refusals.{first, judge, answered}
@@ -10,13 +9,13 @@ use Rattle.plans.proofs.types.Funding.plan.Statement.{statement}
 use Rattle.plans.proofs.types.Funding.plan.Tie as tie
 
 is-support-requires : tie.Need-is-support-requires
-is-support-requires c κs = search needs
+is-support-requires c κs = tt
 
 pick-requires : tie.Need-pick-requires
-pick-requires c κs = search needs
+pick-requires c κs = tt
 
 answer-requires : tie.Need-answer-requires
-answer-requires c κs = search needs
+answer-requires c κs = tt
 
 returns : tie.Need-returns
 unfolding plan judge first

@@ -1,7 +1,6 @@
 -- `plans::Opening::open`: its table is the key's rows over the bid's and row 10; what it asks for is the bid's record.
 use mathlib.Core.Path.{ap}
 use Prim.Native.Nat.{ℕ}
-use borrow.Author.Needs.{needs}
 use Rattle.refusals.specs.Refusals.{judge, answered}
 use Rattle.plans.specs.Plan.{bidFor, plan, Open, asked, planned}
 use Rattle.plans.proofs.Tables.{open-table}
@@ -9,34 +8,34 @@ use Rattle.plans.proofs.types.Opening.open.Statement.{statement}
 use Rattle.plans.proofs.types.Opening.open.Tie as tie
 
 bid-requires : tie.Need-bid-requires
-bid-requires c κs = search needs
+bid-requires c κs = tt
 
 refusal-requires : tie.Need-refusal-requires
-refusal-requires c κs = search needs
+refusal-requires c κs = tt
 
 refusal-requires-2 : tie.Need-refusal-requires-2
-refusal-requires-2 c κs = search needs
+refusal-requires-2 c κs = tt
 
 is-free-requires : tie.Need-is-free-requires
-is-free-requires c κs = search needs
+is-free-requires c κs = tt
 
 pick-requires : tie.Need-pick-requires
-pick-requires c κs = search needs
+pick-requires c κs = tt
 
 or-else-requires : tie.Need-or-else-requires
-or-else-requires c κs = search needs
+or-else-requires c κs = tt
 
 or-else-requires-2 : tie.Need-or-else-requires-2
-or-else-requires-2 c κs = search needs
+or-else-requires-2 c κs = tt
 
 bid-requires-2 : tie.Need-bid-requires-2
-bid-requires-2 c κs = search needs
+bid-requires-2 c κs = tt
 
 opened-requires : tie.Need-opened-requires
-opened-requires c κs = search needs
+opened-requires c κs = tt
 
 answer-requires : tie.Need-answer-requires
-answer-requires c κs = search needs
+answer-requires c κs = tt
 
 returns : tie.Need-returns
 unfolding plan judge bidFor

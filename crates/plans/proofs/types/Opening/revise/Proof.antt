@@ -1,7 +1,6 @@
 -- `plans::Opening::revise`: its table is the key's rows over the bid's over the stage's; what it asks for is the new group's record, and the old requirement.
 use mathlib.Core.Path.{ap}
 use Prim.Native.Nat.{ℕ}
-use borrow.Author.Needs.{needs}
 use Rattle.amounts.proofs.Steps.{back}
 use Rattle.refusals.specs.Refusals.{judge, answered}
 use Rattle.plans.specs.Plan.{bidFor, plan, Revise, asked, planned}
@@ -10,31 +9,31 @@ use Rattle.plans.proofs.types.Opening.revise.Statement.{statement}
 use Rattle.plans.proofs.types.Opening.revise.Tie as tie
 
 bid-requires : tie.Need-bid-requires
-bid-requires c κs = search needs
+bid-requires c κs = tt
 
 refusal-requires : tie.Need-refusal-requires
-refusal-requires c κs = search needs
+refusal-requires c κs = tt
 
 refusal-requires-2 : tie.Need-refusal-requires-2
-refusal-requires-2 c κs = search needs
+refusal-requires-2 c κs = tt
 
 stage-refusal-requires : tie.Need-stage-refusal-requires
-stage-refusal-requires c κs = search needs
+stage-refusal-requires c κs = tt
 
 or-else-requires : tie.Need-or-else-requires
-or-else-requires c κs = search needs
+or-else-requires c κs = tt
 
 or-else-requires-2 : tie.Need-or-else-requires-2
-or-else-requires-2 c κs = search needs
+or-else-requires-2 c κs = tt
 
 bid-requires-2 : tie.Need-bid-requires-2
-bid-requires-2 c κs = search needs
+bid-requires-2 c κs = tt
 
 opened-requires : tie.Need-opened-requires
-opened-requires c κs = search needs
+opened-requires c κs = tt
 
 answer-requires : tie.Need-answer-requires
-answer-requires c κs = search needs
+answer-requires c κs = tt
 
 returns : tie.Need-returns
 unfolding plan judge bidFor

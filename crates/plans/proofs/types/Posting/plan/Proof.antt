@@ -1,5 +1,4 @@
 -- `plans::Posting::plan` answers its table's number, or the record at stage 2.
-use borrow.Author.Needs.{needs}
 use Rattle.amounts.proofs.Steps.{back}
 use Rattle.refusals.specs.Refusals.{judge}
 use Rattle.plans.specs.Plan.{plan}
@@ -7,16 +6,16 @@ use Rattle.plans.proofs.types.Posting.plan.Statement.{statement}
 use Rattle.plans.proofs.types.Posting.plan.Tie as tie
 
 cents-requires : tie.Need-cents-requires
-cents-requires c κs = search needs
+cents-requires c κs = tt
 
 posted-requires : tie.Need-posted-requires
-posted-requires c κs = search needs
+posted-requires c κs = tt
 
 refusal-requires : tie.Need-refusal-requires
-refusal-requires c κs = search needs
+refusal-requires c κs = tt
 
 answer-requires : tie.Need-answer-requires
-answer-requires c κs = search needs
+answer-requires c κs = tt
 
 returns : tie.Need-returns
 unfolding plan judge

@@ -1,30 +1,29 @@
 -- `plans::Posting::refusal`: its table is the key's rows over the delivery's over the stage's, and row 13.
-use borrow.Author.Needs.{needs}
 use Rattle.amounts.proofs.Steps.{back}
 use Rattle.plans.proofs.Tables.{key-above, delivery-above, stage-above, last-row}
 use Rattle.plans.proofs.types.Posting.refusal.Statement.{statement}
 use Rattle.plans.proofs.types.Posting.refusal.Tie as tie
 
 delivery-refusal-requires : tie.Need-delivery-refusal-requires
-delivery-refusal-requires c κs = search needs
+delivery-refusal-requires c κs = tt
 
 refusal-requires : tie.Need-refusal-requires
-refusal-requires c κs = search needs
+refusal-requires c κs = tt
 
 stage-refusal-requires : tie.Need-stage-refusal-requires
-stage-refusal-requires c κs = search needs
+stage-refusal-requires c κs = tt
 
 pick-requires : tie.Need-pick-requires
-pick-requires c κs = search needs
+pick-requires c κs = tt
 
 or-else-requires : tie.Need-or-else-requires
-or-else-requires c κs = search needs
+or-else-requires c κs = tt
 
 or-else-requires-2 : tie.Need-or-else-requires-2
-or-else-requires-2 c κs = search needs
+or-else-requires-2 c κs = tt
 
 or-else-requires-3 : tie.Need-or-else-requires-3
-or-else-requires-3 c κs = search needs
+or-else-requires-3 c κs = tt
 
 returns : tie.Need-returns
 returns c =

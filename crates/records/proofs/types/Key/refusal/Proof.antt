@@ -1,18 +1,17 @@
 -- `records::Key::refusal` picks row by row, as `first` does.
-use borrow.Author.Needs.{needs}
 use Rattle.refusals.specs.Refusals.{first}
 use Rattle.records.specs.Records.{keyRows}
 use Rattle.records.proofs.types.Key.refusal.Statement.{statement}
 use Rattle.records.proofs.types.Key.refusal.Tie as tie
 
 pick-requires : tie.Need-pick-requires
-pick-requires c κs = search needs
+pick-requires c κs = tt
 
 pick-requires-2 : tie.Need-pick-requires-2
-pick-requires-2 c κs = search needs
+pick-requires-2 c κs = tt
 
 pick-requires-3 : tie.Need-pick-requires-3
-pick-requires-3 c κs = search needs
+pick-requires-3 c κs = tt
 
 returns : tie.Need-returns
 unfolding first keyRows

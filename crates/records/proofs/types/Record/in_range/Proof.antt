@@ -1,33 +1,32 @@
 -- `records::Record::in_range` is the tests of the definition, clause by clause.
-use borrow.Author.Needs.{needs}
 use Rattle.amounts.proofs.Steps.{back}
 use Rattle.records.specs.Records.{okRecord}
 use Rattle.records.proofs.types.Record.in_range.Statement.{statement}
 use Rattle.records.proofs.types.Record.in_range.Tie as tie
 
 in-range-requires : tie.Need-in-range-requires
-in-range-requires c κs = search needs
+in-range-requires c κs = tt
 
 stage-ok-requires : tie.Need-stage-ok-requires
-stage-ok-requires c κs = search needs
+stage-ok-requires c κs = tt
 
 mwh-ok-requires : tie.Need-mwh-ok-requires
-mwh-ok-requires c κs = search needs
+mwh-ok-requires c κs = tt
 
 schedule-ok-requires : tie.Need-schedule-ok-requires
-schedule-ok-requires c κs = search needs
+schedule-ok-requires c κs = tt
 
 differential-ok-requires : tie.Need-differential-ok-requires
-differential-ok-requires c κs = search needs
+differential-ok-requires c κs = tt
 
 price-ok-requires : tie.Need-price-ok-requires
-price-ok-requires c κs = search needs
+price-ok-requires c κs = tt
 
 exempt-ok-requires : tie.Need-exempt-ok-requires
-exempt-ok-requires c κs = search needs
+exempt-ok-requires c κs = tt
 
 requirement-fits-requires : tie.Need-requirement-fits-requires
-requirement-fits-requires c κs = search needs
+requirement-fits-requires c κs = tt
 
 returns : tie.Need-returns
 unfolding okRecord

@@ -1,14 +1,13 @@
 -- `records::Record::is_at` is the two tests of the definition.
-use borrow.Author.Needs.{needs}
 use Rattle.records.specs.Records.{at}
 use Rattle.records.proofs.types.Record.is_at.Statement.{statement}
 use Rattle.records.proofs.types.Record.is_at.Tie as tie
 
 is-free-requires : tie.Need-is-free-requires
-is-free-requires c κs = search needs
+is-free-requires c κs = tt
 
 same-requires : tie.Need-same-requires
-same-requires c κs = search needs
+same-requires c κs = tt
 
 returns : tie.Need-returns
 unfolding at

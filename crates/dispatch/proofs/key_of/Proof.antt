@@ -1,0 +1,80 @@
+-- `key_of`: by the message's case.
+use borrow.Author.Needs.{needs}
+use mathlib.Core.Path.{_∙_, sym, ap}
+use Rattle.records.specs.declared.types.Record.{Record}
+use Rattle.plans.specs.Plan.{keyOf}
+use Rattle.dispatch.proofs.key_of.Statement.{statement}
+use Rattle.dispatch.proofs.key_of.Tie as tie
+
+enum-known-message : tie.Need-enum-known-message
+enum-known-message c = search needs
+
+enum-known-message-2 : tie.Need-enum-known-message-2
+enum-known-message-2 c = search needs
+
+enum-known-message-3 : tie.Need-enum-known-message-3
+enum-known-message-3 c = search needs
+
+enum-known-message-4 : tie.Need-enum-known-message-4
+enum-known-message-4 c = search needs
+
+enum-known-message-5 : tie.Need-enum-known-message-5
+enum-known-message-5 c = search needs
+
+enum-known-message-6 : tie.Need-enum-known-message-6
+enum-known-message-6 c = search needs
+
+enum-known-message-7 : tie.Need-enum-known-message-7
+enum-known-message-7 c = search needs
+
+enum-told : tie.Need-enum-told
+enum-told c = search needs
+
+blank-requires : tie.Need-blank-requires
+blank-requires c κs = tt
+
+returns : tie.Need-returns
+returns c = ap keyOf (sym (c .before .before .message .given .1))
+
+returns-2 : tie.Need-returns-2
+returns-2 c = ap keyOf (sym (c .before .before .message2 .given .1))
+
+returns-3 : tie.Need-returns-3
+returns-3 c = ap keyOf (sym (c .before .message3 .given .1))
+
+returns-4 : tie.Need-returns-4
+returns-4 c = ap keyOf (sym (c .before .before .message4 .given .1))
+
+returns-5 : tie.Need-returns-5
+returns-5 c = ap keyOf (sym (c .before .before .message5 .given .1))
+
+returns-6 : tie.Need-returns-6
+returns-6 c = ap keyOf (sym (c .before .before .message6 .given .1))
+
+returns-7 : tie.Need-returns-7
+returns-7 c = ap keyOf (sym (c .before .message7 .given .1))
+
+returns-8 : tie.Need-returns-8
+returns-8 c = ap (λ (r : Record). r .key) (c .before .blank .ensures) ∙ ap keyOf (sym (c .before .before .enum-told .given .1))
+
+pub key-of-spec : {M : Type 1} → statement M
+key-of-spec =
+    tie.close
+    (tie.spec
+    enum-known-message
+    enum-known-message-2
+    enum-known-message-3
+    enum-known-message-4
+    enum-known-message-5
+    enum-known-message-6
+    enum-known-message-7
+    enum-told
+    blank-requires
+    returns
+    returns-2
+    returns-3
+    returns-4
+    returns-5
+    returns-6
+    returns-7
+    returns-8)

@@ -1,0 +1,138 @@
+-- `plan_of`: by the message's case; one without points does not look at the lists.
+use borrow.Author.Needs.{needs}
+use mathlib.Core.Path.{_∙_, sym, ap}
+use Rattle.plans.specs.declared.types.Message.{Message}
+use Rattle.plans.specs.Plan.{plan, planned}
+use Rattle.dispatch.proofs.plan_of.Statement.{statement}
+use Rattle.dispatch.proofs.plan_of.Tie as tie
+
+enum-known-message : tie.Need-enum-known-message
+enum-known-message c = search needs
+
+open-requires : tie.Need-open-requires
+open-requires c κs = tt
+
+enum-known-message-2 : tie.Need-enum-known-message-2
+enum-known-message-2 c = search needs
+
+revise-requires : tie.Need-revise-requires
+revise-requires c κs = tt
+
+enum-known-message-3 : tie.Need-enum-known-message-3
+enum-known-message-3 c = search needs
+
+withdraw-requires : tie.Need-withdraw-requires
+withdraw-requires c κs = tt
+
+enum-known-message-4 : tie.Need-enum-known-message-4
+enum-known-message-4 c = search needs
+
+plan-requires : tie.Need-plan-requires
+plan-requires c κs = tt
+
+enum-known-message-5 : tie.Need-enum-known-message-5
+enum-known-message-5 c = search needs
+
+plan-requires-2 : tie.Need-plan-requires-2
+plan-requires-2 c κs = tt
+
+enum-known-message-6 : tie.Need-enum-known-message-6
+enum-known-message-6 c = search needs
+
+plan-requires-3 : tie.Need-plan-requires-3
+plan-requires-3 c κs = tt
+
+enum-known-message-7 : tie.Need-enum-known-message-7
+enum-known-message-7 c = search needs
+
+pay-requires : tie.Need-pay-requires
+pay-requires c κs = tt
+
+enum-known-message-8 : tie.Need-enum-known-message-8
+enum-known-message-8 c = search needs
+
+plan-requires-4 : tie.Need-plan-requires-4
+plan-requires-4 c κs = tt
+
+returns : tie.Need-returns
+returns c =
+    let k = c .before .before in
+    let a = k .before .before .before .args in
+    c .«open» .ensures ∙ ap (λ (m : Message). planned (plan (a .old) m (a .mwh .now) (a .prices .now))) (sym (k .message .given .1))
+
+returns-2 : tie.Need-returns-2
+returns-2 c =
+    let k = c .before .before in
+    let a = k .before .before .before .args in
+    c .revise .ensures ∙ ap (λ (m : Message). planned (plan (a .old) m (a .mwh .now) (a .prices .now))) (sym (k .message2 .given .1))
+
+returns-3 : tie.Need-returns-3
+unfolding plan
+returns-3 c =
+    let k = c .before .before in
+    let a = k .before .before .before .args in
+    c .withdraw .ensures ∙ ap (λ (m : Message). planned (plan (a .old) m (a .mwh .now) (a .prices .now))) (sym (k .message3 .given .1))
+
+returns-4 : tie.Need-returns-4
+unfolding plan
+returns-4 c =
+    let k = c .before .before in
+    let a = k .before .before .before .args in
+    c .plan .ensures ∙ ap (λ (m : Message). planned (plan (a .old) m (a .mwh .now) (a .prices .now))) (sym (k .message4 .given .1))
+
+returns-5 : tie.Need-returns-5
+unfolding plan
+returns-5 c =
+    let k = c .before .before in
+    let a = k .before .before .before .args in
+    c .plan2 .ensures ∙ ap (λ (m : Message). planned (plan (a .old) m (a .mwh .now) (a .prices .now))) (sym (k .message5 .given .1))
+
+returns-6 : tie.Need-returns-6
+unfolding plan
+returns-6 c =
+    let k = c .before .before in
+    let a = k .before .before .before .args in
+    c .plan3 .ensures ∙ ap (λ (m : Message). planned (plan (a .old) m (a .mwh .now) (a .prices .now))) (sym (k .message6 .given .1))
+
+returns-7 : tie.Need-returns-7
+unfolding plan
+returns-7 c =
+    let k = c .before .before in
+    let a = k .before .before .before .args in
+    c .pay .ensures ∙ ap (λ (m : Message). planned (plan (a .old) m (a .mwh .now) (a .prices .now))) (sym (k .message7 .given .1))
+
+returns-8 : tie.Need-returns-8
+unfolding plan
+returns-8 c =
+    let k = c .before .before in
+    let a = k .before .before .before .args in
+    c .plan4 .ensures ∙ ap (λ (m : Message). planned (plan (a .old) m (a .mwh .now) (a .prices .now))) (sym (k .message8 .given .1))
+
+pub plan-of-spec : {M : Type 1} → statement M
+plan-of-spec =
+    tie.close
+    (tie.spec
+    enum-known-message
+    open-requires
+    enum-known-message-2
+    revise-requires
+    enum-known-message-3
+    withdraw-requires
+    enum-known-message-4
+    plan-requires
+    enum-known-message-5
+    plan-requires-2
+    enum-known-message-6
+    plan-requires-3
+    enum-known-message-7
+    pay-requires
+    enum-known-message-8
+    plan-requires-4
+    returns
+    returns-2
+    returns-3
+    returns-4
+    returns-5
+    returns-6
+    returns-7
+    returns-8)

@@ -1,0 +1,38 @@
+// The eight messages as one: the key that any of them has, and what it asks of the record under it.
+ghost use mathlib.Core.Path.{_≡_};
+ghost use Rattle.plans.specs.Plan.{keyOf, plan, planned};
+use plans::types::Message;
+use plans::types::Planned;
+use records::types::Key;
+use records::types::Record;
+
+// A support change has no key; that of a free place stands for it, and no record is under it.
+pub fn key_of(message: Message) -> Key
+    ensures { λ k. ⌜ k ≡ keyOf message ⌝ }
+{
+    match message {
+        Message::Open(opening) => opening.key,
+        Message::Revise(opening) => opening.key,
+        Message::Withdraw(key) => key,
+        Message::Post(posting) => posting.key,
+        Message::Finish(finishing) => finishing.key,
+        Message::Bill(billing) => billing.key,
+        Message::Pay(key) => key,
+        Message::Support(_) => Record::blank().key,
+    }
+}
+
+pub fn plan_of(message: Message, old: Record, mwh: &[u64], prices: &[i64]) -> Planned
+    ensures { λ r. ⌜ r ≡ planned (plan old message (now (mwh .entry)) (now (prices .entry))) ⌝ }
+{
+    match message {
+        Message::Open(opening) => opening.open(old, mwh, prices),
+        Message::Revise(opening) => opening.revise(old, mwh, prices),
+        Message::Withdraw(key) => plans::withdraw(key, old),
+        Message::Post(posting) => posting.plan(old),
+        Message::Finish(finishing) => finishing.plan(old),
+        Message::Bill(billing) => billing.plan(old),
+        Message::Pay(key) => plans::pay(key, old),
+        Message::Support(funding) => funding.plan(),
+    }
+}

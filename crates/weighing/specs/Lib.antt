@@ -1,0 +1,3 @@
+pub mod Weights
+pub mod Weighing
+pub mod Bounds

@@ -1,0 +1,37 @@
+-- Document 01, 'Turned away, and why': refusals 14 to 16, which see a book's totals and what is asked for, and nothing else;
+-- and the requirement that an acceptance answers.
+-- Assumes nothing.
+use mathlib.Core.Bool.{Bool, _&&_}
+use mathlib.Core.List.{List, [], _∷_}
+use lib.IntN.{ℤ, pos, _+ℤ_, _-ℤ_, _*ℤ_}
+use lib.Signed.{ltZ, leZ}
+use Rattle.refusals.specs.Refusals.{Row, row, Verdict, judge}
+use Rattle.plans.specs.declared.types.Change.the-variants.{Add, Redo, Move, Drop}
+use Rattle.plans.specs.declared.types.Deed.{Deed}
+use Rattle.plans.specs.declared.types.Deed.the-variants.{On, Refund}
+pub use Rattle.weighing.specs.declared.types.Totals.{Totals}
+
+-- 'The book is suspended exactly when 2 x net owed is at least the support'
+unfoldable pub suspended : Totals → Bool
+suspended t = leZ (t .support) (pos 2 *ℤ t .owed)
+
+-- 14 'open or revise while suspended', 15 'open with 256 records', 16 'open: held + requirement above support;
+-- revise: the new requirement is above the old and held afterwards is above support'
+abbrev pub weighRows : Totals → Deed → List Row
+weighRows t (On (Add r)) = row 14 (suspended t) ∷ row 15 (t .full) ∷ row 16 (ltZ (t .support) (t .held +ℤ r .requirement)) ∷ []
+weighRows t (On (Redo was r)) =
+    row 14 (suspended t) ∷ row 16 (ltZ was (r .requirement) && ltZ (t .support) (t .held -ℤ was +ℤ r .requirement)) ∷ []
+weighRows t (On (Move r)) = []
+weighRows t (On (Drop k)) = []
+weighRows t (Refund support) = []
+
+unfoldable pub weigh : Totals → Deed → Verdict Deed
+weigh t d = judge (weighRows t d) d
+
+-- 'the key's requirement (0 after withdraw, pay and support)'
+abbrev pub answeredBy : Deed → ℤ
+answeredBy (On (Add r)) = r .requirement
+answeredBy (On (Redo was r)) = r .requirement
+answeredBy (On (Move r)) = r .requirement
+answeredBy (On (Drop k)) = pos 0
+answeredBy (Refund support) = pos 0

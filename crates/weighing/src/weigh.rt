@@ -1,0 +1,73 @@
+// Refusals 14 to 16: they see a book's totals and what is asked for.
+ghost use mathlib.Core.Path.{_≡_};
+ghost use mathlib.Core.Bool.{cond, _&&_};
+ghost use lib.IntN.{_+ℤ_, _-ℤ_};
+ghost use lib.Signed.{ltZ};
+ghost use Rattle.amounts.specs.Amount.{Within};
+ghost use Rattle.refusals.specs.Refusals.{first};
+ghost use Rattle.weighing.specs.Weighing.{suspended, weighRows};
+ghost use Rattle.weighing.specs.Bounds.{Small, Light};
+use crate::types::Totals;
+use plans::types::Change;
+use plans::types::Deed;
+use refusals::pick;
+
+impl Totals {
+    pub fn is_suspended(self) -> bool
+        requires { ⌜ Small self ⌝ }
+        ensures { λ r. ⌜ r ≡ suspended self ⌝ }
+    {
+        self.support <= 2 * self.owed
+    }
+
+    // Held with a new requirement is above support.
+    fn is_above(self, requirement: i64) -> bool
+        requires { ⌜ Small self ⌝ }
+        requires { ⌜ Within 1300000000000 requirement ⌝ }
+        ensures { λ r. ⌜ r ≡ ltZ (self .support) (self .held +ℤ requirement) ⌝ }
+    {
+        self.support < self.held + requirement
+    }
+
+    // The new requirement is above the old, and held afterwards is above support.
+    fn is_above_after(self, was: i64, requirement: i64) -> bool
+        requires { ⌜ Small self ⌝ }
+        requires { ⌜ Within 1300000000000 was ⌝ }
+        requires { ⌜ Within 1300000000000 requirement ⌝ }
+        ensures { λ r. ⌜ r ≡ (ltZ was requirement && ltZ (self .support) (self .held -ℤ was +ℤ requirement)) ⌝ }
+    {
+        (was < requirement) & (self.support < self.held - was + requirement)
+    }
+
+    fn weigh_change(self, change: Change) -> u64
+        requires { ⌜ Small self ⌝ }
+        requires { ⌜ Light (Deed.On change) ⌝ }
+        ensures { λ r. ⌜ r ≡ first (weighRows self (Deed.On change)) ⌝ }
+    {
+        match change {
+            Change::Add(r) => pick(
+                self.is_suspended(),
+                14,
+                pick(self.full, 15, pick(self.is_above(r.requirement), 16, 0)),
+            ),
+            Change::Redo(was, r) => pick(
+                self.is_suspended(),
+                14,
+                pick(self.is_above_after(was, r.requirement), 16, 0),
+            ),
+            Change::Move(_) => 0,
+            Change::Drop(_) => 0,
+        }
+    }
+
+    pub fn weigh(self, deed: Deed) -> u64
+        requires { ⌜ Small self ⌝ }
+        requires { ⌜ Light deed ⌝ }
+        ensures { λ r. ⌜ r ≡ first (weighRows self deed) ⌝ }
+    {
+        match deed {
+            Deed::On(change) => self.weigh_change(change),
+            Deed::Refund(_) => 0,
+        }
+    }
+}
