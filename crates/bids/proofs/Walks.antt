@@ -2,17 +2,13 @@
 -- Assumes nothing.
 use mathlib.Core.Path.{_≡_, sym, ap, _∙_}
 use mathlib.Core.List.{List, [], _∷_}
-use Prim.Native.Nat.{ℕ, suc, _-_, _≤_, _<_}
+use Prim.Native.Nat.{ℕ, _-_, _≤_, _<_}
 use native.Mathlib.Omega.{arith}
 use lib.IntN.{ℤ, pos}
 use lib.ListN.{length, getD, drop}
-use lib.Seq.{drop-cons, drop-length}
+use lib.Seq.{drop-length}
+use Rattle.amounts.proofs.Walks.{drop-back}
 use Rattle.bids.specs.Points.{Point, curve}
-
-pub drop-back : {A : Type 0} (l : List A) (i : ℕ) (d : A) → 0 < i → i ≤ length l → drop (i - 1) l ≡ getD l (i - 1) d ∷ drop i l
-drop-back l i d h g =
-    let e : suc (i - 1) ≡ i = omega arith in
-    rw (drop-cons l (i - 1) d (omega arith)) (ap (λ (n : ℕ). getD l (i - 1) d ∷ drop n l) e)
 
 -- the points from place i on
 abbrev pub rest : List ℕ → List ℤ → ℕ → List Point

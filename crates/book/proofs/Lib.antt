@@ -1,10 +1,11 @@
 pub mod Places
-pub mod Passed
-pub mod Sums
-pub mod Codes
-pub mod Distinct
+mod Passed
+mod Sums
+mod Codes
+mod Walked
+mod Distinct
 pub mod Effect
-pub mod Verdicts
+mod Verdicts
 pub mod Kept
-pub mod Endings
-pub mod Carried
+pub mod Written
+mod Shown

@@ -17,9 +17,9 @@ use Rattle.plans.specs.declared.types.Change.the-variants.{Add, Redo, Move, Dro
 use Rattle.plans.specs.Plan.{keyOf, planRows, plan}
 use Rattle.plans.proofs.Fits.{plan-rows-numbered}
 use Rattle.weighing.specs.declared.types.Totals.{Totals}
-use Rattle.weighing.specs.Weighing.{weighRows, weigh}
+use Rattle.weighing.specs.Weighing.{weighRows, weigh, pass}
 use Rattle.book.specs.Books.{Book, lookup, sound, totals}
-use Rattle.book.specs.Step.{askedOf, table, verdict, pass, concluded}
+use Rattle.book.specs.Step.{askedOf, table, verdict, concluded}
 
 -- two tables, one below the other: the lower is asked only where the upper has passed
 module _ {X : Type 0} (x : X) where

@@ -1,5 +1,3 @@
 pub mod Places
 pub mod Books
-pub mod Codes
 pub mod Step
-pub mod Ready

@@ -15,12 +15,10 @@ use Rattle.plans.specs.declared.types.Deed.{Deed}
 use Rattle.plans.specs.declared.types.Deed.the-variants.{On, Refund}
 use Rattle.records.specs.Records.{blank, isFree, at}
 use Rattle.plans.specs.Plan.{keyOf, asked, planRows}
-pub use Rattle.book.specs.declared.types.Answer.{Answer}
+use Rattle.endings.specs.declared.types.Answer.the-variants.{Accepted, Refused}
 pub use Rattle.book.specs.declared.types.Outcome.{Outcome}
-pub use Rattle.book.specs.declared.types.Answer.the-variants.{Accepted, Refused}
 use Rattle.book.specs.Places.{swap}
-use Rattle.weighing.specs.declared.types.Totals.{Totals}
-use Rattle.weighing.specs.Weighing.{weighRows, weigh, answeredBy}
+use Rattle.weighing.specs.Weighing.{weighRows, pass, answeredBy}
 use Rattle.book.specs.Books.{Book, lookup, sound, held, owed, totals, heldShown, owedShown, empty}
 
 -- ---- all the refusals that concern a message, in the paper's order
@@ -36,11 +34,6 @@ table b m mwhs prices =
 -- 2 to 13 by the message and its record, then 14 to 16 by the totals (verdict-is)
 unfoldable pub verdict : Book → Message → List ℕ → List ℤ → Verdict Deed
 verdict b m mwhs prices = judge (table b m mwhs prices) (askedOf b m mwhs prices)
-
--- the second part is asked where the first has passed
-unfoldable pub pass : Totals → Verdict Deed → Verdict Deed
-pass t (refuse n) = refuse n
-pass t (accept d) = weigh t d
 
 unfoldable pub concluded : Book → Verdict Deed → Verdict Deed
 concluded b v = cond (sound b) (pass (totals b) v) (refuse 1)
@@ -79,16 +72,3 @@ fresh support =
     cond (isSupport support)
     (record { book = empty support; answer = Accepted (pos 0) (pos 0) (pos 0) })
     (record { book = empty (pos 0); answer = Refused 9 (pos 0) (pos 0) })
-
--- ---- the paper's number and values for each case of an answer
-
-pub record Reply : Type 0 where
-  pub number : ℕ
-  pub requirement : ℤ
-  pub held : ℤ
-  pub owed : ℤ
-
--- 0 is no refusal; 'a refusal answers its number, requirement 0'
-abbrev pub reply : Answer → Reply
-reply (Accepted requirement held owed) = record { number = 0; requirement = requirement; held = held; owed = owed }
-reply (Refused number held owed) = record { number = number; requirement = pos 0; held = held; owed = owed }

@@ -1,12 +1,15 @@
 // A fresh book, and what a screen asks of a book.
 ghost use mathlib.Core.Path.{_≡_};
-ghost use Rattle.book.specs.Books.{empty as emptyOf, heldShown, owedShown, suspendedShown};
+ghost use mathlib.Core.Bool.{cond};
+ghost use Rattle.book.specs.Books.{empty as emptyOf, sound, heldShown, owedShown, suspendedShown};
 ghost use Rattle.book.specs.Step.{fresh as freshOf};
 use crate::types::Answer;
 use crate::types::Book;
 use crate::types::Outcome;
 use amounts::Amount;
+use plans::types::Funding;
 use records::types::Record;
+use weighing::types::Totals;
 
 impl Book {
     fn empty(support: i64) -> Book
@@ -44,39 +47,44 @@ impl Book {
         }
     }
 
+    // What a screen asks is answered by a message that is always refused, as every refusal answers held and net owed: a support out of range.
+    fn asked(self) -> Answer
+        ensures { λ a. ⌜ a ≡ Answer.Refused (cond (sound self) 9 1) (heldShown self) (owedShown self) ⌝ }
+    {
+        self.support(Funding { cents: -1 }).answer
+    }
+
     // Credit held; 0 for a book that is not sound.
     pub fn held(self) -> i64
         ensures { λ z. ⌜ z ≡ heldShown self ⌝ }
     {
-        let view = self.view(Record::blank().key);
-        if !view.sound {
-            return 0;
-        }
-        let totals = view.totals;
-        totals.held
+        self.asked().held()
     }
 
     // The net billed amount; 0 for a book that is not sound.
     pub fn net_owed(self) -> i64
         ensures { λ z. ⌜ z ≡ owedShown self ⌝ }
     {
-        let view = self.view(Record::blank().key);
-        if !view.sound {
-            return 0;
-        }
-        let totals = view.totals;
-        totals.owed
+        self.asked().owed()
+    }
+
+    pub fn is_sound(self) -> bool
+        ensures { λ r. ⌜ r ≡ sound self ⌝ }
+    {
+        !self.asked().is_unsound()
     }
 
     // A book that is not sound takes no bid, so it shows as suspended.
     pub fn suspended(self) -> bool
         ensures { λ r. ⌜ r ≡ suspendedShown self ⌝ }
     {
-        let view = self.view(Record::blank().key);
-        if !view.sound {
-            return true;
-        }
-        let totals = view.totals;
-        totals.is_suspended()
+        let answer = self.asked();
+        let totals = Totals {
+            support: self.support,
+            held: answer.held(),
+            owed: answer.owed(),
+            full: false,
+        };
+        answer.is_unsound() | totals.is_suspended()
     }
 }

@@ -1,4 +1,5 @@
 // One customer's book, and what a message to it answers.
+pub use endings::types::Answer;
 use records::types::Record;
 
 pub struct Book {
@@ -9,19 +10,6 @@ pub struct Book {
 
 impl Book {
     pub const PLACES: usize = 256;
-}
-
-pub enum Answer {
-    Accepted {
-        requirement: i64,
-        held: i64,
-        owed: i64,
-    },
-    Refused {
-        number: u64,
-        held: i64,
-        owed: i64,
-    },
 }
 
 // The next book, and the answer.

@@ -29,7 +29,8 @@ use Rattle.weighing.specs.Weighing.{weighRows, answeredBy}
 use Rattle.book.specs.declared.types.Book.{Book}
 use Rattle.book.specs.Places.{find, orElseBlank}
 use Rattle.book.specs.Books.{lookup, sound, full, totals}
-use Rattle.book.specs.Step.{reply, askedOf, table, change, rebook, done, step}
+use Rattle.endings.specs.Answers.{reply}
+use Rattle.book.specs.Step.{askedOf, table, change, rebook, done, step}
 use Rattle.book.proofs.Effect.{Effect, weight, mark}
 use Rattle.book.proofs.Kept.{lookup-none, effect, leaves, done-sound}
 use Rattle.promises.proofs.Answers.{none-accepted}

@@ -23,7 +23,8 @@ use Rattle.plans.proofs.Fits.{fits}
 use Rattle.book.specs.declared.types.Book.{Book}
 use Rattle.book.specs.Places.{find, missing, orElseBlank}
 use Rattle.book.specs.Books.{lookup, full, noRecords, empty}
-use Rattle.book.specs.Step.{reply, askedOf, fresh, step}
+use Rattle.endings.specs.Answers.{reply}
+use Rattle.book.specs.Step.{askedOf, fresh, step}
 use Rattle.book.proofs.Kept.{lookup-under}
 use Rattle.promises.proofs.Taken.{taken}
 use Rattle.promises.proofs.Requirements.{open-sets}

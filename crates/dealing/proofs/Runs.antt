@@ -13,7 +13,8 @@ use Rattle.plans.specs.declared.types.Message.{Message}
 use Rattle.plans.specs.declared.types.Message.the-variants.{Open, Revise, Withdraw, Post, Finish, Bill, Pay, Support}
 use Rattle.plans.specs.Plan.{keyOf, opens}
 use Rattle.book.specs.declared.types.Book.{Book}
-use Rattle.book.specs.Step.{reply, rebook, step}
+use Rattle.endings.specs.Answers.{reply}
+use Rattle.book.specs.Step.{rebook, step}
 use Rattle.promises.specs.Runs.{Sent, after}
 use Rattle.promises.proofs.Requirements.{support-sets}
 use Rattle.dealing.specs.Dealing.{sentTo, Accepted, requirementOf, requirements, Dealt, whole, keyed, part, owner, owners, Fair, requirementsTo}

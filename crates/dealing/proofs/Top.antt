@@ -27,7 +27,7 @@ use Rattle.book.specs.declared.types.Book.{Book}
 use Rattle.book.specs.Books.{lookup, sound, held, owed, full, totals}
 use Rattle.book.proofs.Places.{every-find}
 use Rattle.book.proofs.Kept.{sound-places, lookup-some}
-use Rattle.book.proofs.Endings.{totals-small}
+use Rattle.book.proofs.Written.{totals-small}
 use Rattle.dealing.specs.Dealing.{topSupport}
 
 module _ (t : Totals) (top : t .support ≡ pos topSupport) (small : Small t) where

@@ -13,7 +13,8 @@ use Rattle.plans.specs.Plan.{keyOf, opens}
 use Rattle.book.specs.declared.types.Book.{Book}
 use Rattle.book.specs.Books.{lookup, held, owed}
 use Rattle.book.specs.declared.types.Outcome.{Outcome}
-use Rattle.book.specs.Step.{reply, step, fresh}
+use Rattle.endings.specs.Answers.{reply}
+use Rattle.book.specs.Step.{step, fresh}
 use Rattle.promises.specs.Runs.{Sent, after}
 
 -- ---- a run

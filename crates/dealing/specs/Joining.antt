@@ -9,7 +9,8 @@ use Rattle.plans.specs.declared.types.Opening.{Opening}
 use Rattle.plans.specs.declared.types.Message.the-variants.{Open}
 use Rattle.book.specs.declared.types.Book.{Book}
 use Rattle.book.specs.Books.{lookup}
-use Rattle.book.specs.Step.{reply, step}
+use Rattle.endings.specs.Answers.{reply}
+use Rattle.book.specs.Step.{step}
 
 -- the book b accepts the open, and the requirement that stands under its key is then `cents`
 pub record Opens (b : Book) (o : Opening) (mwhs : List ℕ) (prices : List ℤ) (cents : ℤ) : Type 0 where

@@ -18,7 +18,8 @@ use Rattle.weighing.specs.Weighing.{weighRows}
 use Rattle.book.specs.declared.types.Book.{Book}
 use Rattle.book.specs.declared.types.Outcome.{Outcome}
 use Rattle.book.specs.Books.{lookup, sound, held, owed, totals, heldShown, owedShown}
-use Rattle.book.specs.Step.{reply, askedOf, table, verdict, outcome, step}
+use Rattle.endings.specs.Answers.{reply}
+use Rattle.book.specs.Step.{askedOf, table, verdict, outcome, step}
 use Rattle.promises.specs.Statements.{replied, Unchanged}
 
 module _ (b : Book) (m : Message) (ms : List ℕ) (ps : List ℤ) where

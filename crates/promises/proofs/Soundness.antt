@@ -18,7 +18,7 @@ use Rattle.weighing.specs.Weights.{owes}
 use Rattle.book.specs.declared.types.Book.{Book}
 use Rattle.book.specs.Books.{sound, distinct, held, owed, totals, suspendedShown, noRecords, empty}
 use Rattle.book.specs.declared.types.Outcome.{Outcome}
-use Rattle.book.specs.declared.types.Answer.the-variants.{Accepted, Refused}
+use Rattle.endings.specs.declared.types.Answer.the-variants.{Accepted, Refused}
 use Rattle.book.specs.Step.{fresh, step, askedOf}
 use Rattle.book.proofs.Kept.{done-sound}
 use Rattle.promises.specs.Statements.{replied}

@@ -11,7 +11,8 @@ use Rattle.plans.specs.Plan.{keyOf, planRows}
 use Rattle.weighing.specs.Weighing.{weighRows, answeredBy}
 use Rattle.book.specs.declared.types.Book.{Book}
 use Rattle.book.specs.Books.{lookup, sound, held, owed, totals, heldShown, owedShown}
-use Rattle.book.specs.Step.{Reply, reply, askedOf, done, step}
+use Rattle.endings.specs.Answers.{Reply, reply}
+use Rattle.book.specs.Step.{askedOf, done, step}
 
 module _ (b : Book) (m : Message) (ms : List ℕ) (ps : List ℤ) where
   -- the paper's number and values of the answer

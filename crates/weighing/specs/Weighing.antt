@@ -5,7 +5,7 @@ use mathlib.Core.Bool.{Bool, _&&_}
 use mathlib.Core.List.{List, [], _∷_}
 use lib.IntN.{ℤ, pos, _+ℤ_, _-ℤ_, _*ℤ_}
 use lib.Signed.{ltZ, leZ}
-use Rattle.refusals.specs.Refusals.{Row, row, Verdict, judge}
+use Rattle.refusals.specs.Refusals.{Row, row, Verdict, refuse, accept, judge}
 use Rattle.plans.specs.declared.types.Change.the-variants.{Add, Redo, Move, Drop}
 use Rattle.plans.specs.declared.types.Deed.{Deed}
 use Rattle.plans.specs.declared.types.Deed.the-variants.{On, Refund}
@@ -27,6 +27,11 @@ weighRows t (Refund support) = []
 
 unfoldable pub weigh : Totals → Deed → Verdict Deed
 weigh t d = judge (weighRows t d) d
+
+-- 2 to 13 first: these are asked where those have passed
+unfoldable pub pass : Totals → Verdict Deed → Verdict Deed
+pass t (refuse n) = refuse n
+pass t (accept d) = weigh t d
 
 -- 'the key's requirement (0 after withdraw, pay and support)'
 abbrev pub answeredBy : Deed → ℤ

@@ -1,8 +1,6 @@
-// What a record weighs in a book's totals, refusals 14 to 16, which see the totals alone, and what an accepted deed answers.
-mod answers;
+// What a record weighs in a book's totals, and refusals 14 to 16, which see the totals alone.
 pub mod types;
 mod weigh;
 mod weights;
 
-pub use answers::answered_by;
-pub use weights::weighs;
+pub use weights::owes;

@@ -1,15 +1,15 @@
-// A record's part in held, and in net owed.
+// A record's part in net owed; its part in held is its requirement.
 ghost use mathlib.Core.Path.{_≡_};
-ghost use Rattle.weighing.specs.Weights.{weight};
+ghost use Rattle.weighing.specs.Weights.{owes};
 use records::types::Record;
 
-// What a record weighs in held, or in net owed where only what is billed counts.
-pub fn weighs(r: Record, billed: bool) -> i64
-    ensures { λ z. ⌜ z ≡ weight billed r ⌝ }
+// Only what is billed is owed.
+pub fn owes(r: Record) -> i64
+    ensures { λ z. ⌜ z ≡ owes r ⌝ }
 {
-    if billed & !(r.stage == Record::BILLED) {
-        0
-    } else {
+    if r.stage == Record::BILLED {
         r.requirement
+    } else {
+        0
     }
 }

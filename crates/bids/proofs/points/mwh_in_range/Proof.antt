@@ -7,7 +7,7 @@ use lib.ListN.{length, drop, getD}
 use lib.Seq.{drop-length}
 use Rattle.amounts.specs.Lists.{every}
 use Rattle.bids.specs.Rows.{isPointMwh}
-use Rattle.bids.proofs.Walks.{drop-back}
+use Rattle.amounts.proofs.Walks.{drop-back}
 use Rattle.bids.proofs.points.mwh_in_range.Statement.{statement}
 use Rattle.bids.proofs.points.mwh_in_range.Tie as tie
 

@@ -9,7 +9,7 @@ use lib.Seq.{drop-length}
 use Rattle.amounts.specs.Limits.{isPrice}
 use Rattle.amounts.specs.Lists.{every}
 use Rattle.amounts.proofs.Steps.{back}
-use Rattle.bids.proofs.Walks.{drop-back}
+use Rattle.amounts.proofs.Walks.{drop-back}
 use Rattle.bids.proofs.points.prices_in_range.Statement.{statement}
 use Rattle.bids.proofs.points.prices_in_range.Tie as tie
 

@@ -1,43 +1,226 @@
--- `Book::apply`: a message's plan, concluded, is its step.
-use mathlib.Core.Path.{_≡_, _∙_, ap}
-use mathlib.Core.Bool.{true}
+-- `Book::apply`: the walk has seen all places (proofs/Walked.antt), and the ending, written, is the step (proofs/Written.antt).
+use Prim.Native.Nat.{ℕ, _<_, _≤_, _-_, _%_}
+use native.Mathlib.Omega.{arith}
+use mathlib.Core.Path.{_≡_, refl, sym, ap, _∙_, subst}
+use mathlib.Core.Bool.{true, _&&_}
+use mathlib.Core.List.{List}
+use lib.IntN.{ℤ}
+use borrow.Author.Needs.{needs}
+use lib.ListN.{length, getD, set, length-map}
+use lib.Seq.{set-out}
+use mir.Syntax.{w64}
+use mir.Val.{SFits}
+use mir.Facts.{toZ-ofZ}
+use Rattle.amounts.specs.Limits.{isSupport}
+use Rattle.apart.specs.Apart.{apart}
+use Rattle.refusals.proofs.Laws.{and-left}
 use Rattle.records.specs.declared.types.Key.{Key}
 use Rattle.records.specs.declared.types.Record.{Record}
+use Rattle.records.specs.Records.{blank, at}
+use Rattle.plans.specs.declared.types.Message.{Message}
 use Rattle.plans.specs.Plan.{keyOf, plan, planned}
-use Rattle.book.specs.Books.{lookup, sound}
-use Rattle.book.proofs.Carried.{concludes, apt}
+use Rattle.book.specs.Places.{index}
+use Rattle.book.specs.Books.{Book, lookup, sound}
+use Rattle.book.specs.Step.{step}
+use Rattle.endings.specs.declared.types.Sight.{Sight}
+use Rattle.endings.specs.Endings.{sightOf, Apt, asVerdict, ended}
+use Rattle.seen.specs.declared.types.Seen.{Seen}
+use Rattle.book.proofs.Codes.{sound-by}
+use Rattle.book.proofs.Walked.{Walked, begun, walked-more, all-ranged, all-coded, free-is, place-is, summed, looked-up}
+use Rattle.book.proofs.Written.{Sees, written, ends, apt}
 use Rattle.book.proofs.types.Book.apply.Statement.{statement}
 use Rattle.book.proofs.types.Book.apply.Tie as tie
 
-key-of-requires : tie.Need-key-of-requires
+abbrev Inv-loop : tie.InvT-loop
+Inv-loop message mwh prices next key codes₀ seen₀ i₀ codes seen i = Walked key (next .records) codes seen i
+
+abbrev μ-loop : tie.MeasureT-loop
+μ-loop message mwh prices next key codes₀ seen₀ i₀ codes seen i = i
+
+size : (g : tie.Start Inv-loop μ-loop) → length (g .args .self .records) ≡ 256
+size g = simp length-map at (g .good .0 .1 .1 .0 .1 .0 .1)
+
+key-of-requires : tie.Need-key-of-requires Inv-loop μ-loop
 key-of-requires c κs = tt
 
-view-requires : tie.Need-view-requires
-view-requires c κs = tt
+nothing-requires : tie.Need-nothing-requires Inv-loop μ-loop
+nothing-requires c κs = tt
 
-plan-of-requires : tie.Need-plan-of-requires
+loop-holds : tie.Need-loop-holds Inv-loop μ-loop
+loop-holds c = subst (λ (x : Seen). Walked (c .before .key-of .result) (c .before .before .before .args .self .records) _ x 256) (sym (c .nothing .ensures)) (begun (c .before .key-of .result) (c .before .before .before .args .self .records) _ (size (c .before .before .before)) refl)
+
+sub-i : tie.Need-sub-i Inv-loop μ-loop
+sub-i c = omega arith
+
+mul-r : tie.Need-mul-r Inv-loop μ-loop
+mul-r c = omega (arith, c .before .loop .inv .within)
+
+element-copy-out-r : tie.Need-element-copy-out-r Inv-loop μ-loop
+element-copy-out-r c = omega (arith, c .before .loop .inv .within)
+
+code-requires : tie.Need-code-requires Inv-loop μ-loop
+code-requires c κs = tt
+
+mul-codes : tie.Need-mul-codes Inv-loop μ-loop
+mul-codes c = omega (arith, c .before .before .before .loop .inv .within)
+
+array-write-codes : tie.Need-array-write-codes Inv-loop μ-loop
+array-write-codes c = omega (arith, c .before .before .before .loop .inv .within)
+
+with-requires : tie.Need-with-requires Inv-loop μ-loop
+with-requires c κs = c .before .before .before .loop .inv .light
+
+loop-less : tie.Need-loop-less Inv-loop μ-loop
+loop-less c = omega arith
+
+loop-again : tie.Need-loop-again Inv-loop μ-loop
+loop-again c =
+    let l = c .before .before .before .before in
+    let key = c .before .before .before .before .before .before .key-of .result in
+    let rs = c .before .before .before .before .before .before .before .before .args .self .records in
+    let codes = set (l .loop .codes) (l .loop .i - 1) (c .before .code .result) in
+    subst (λ (x : Seen). Walked key rs codes x (l .loop .i - 1)) (sym (c .with .ensures))
+    (walked-more key rs (l .loop .codes) (l .loop .seen) (l .loop .i) (c .before .code .result) (size (c .before .before .before .before .before .before .before .before)) (omega (arith, c .before .before .before .loop-test .taken)) (l .loop .inv) (c .before .code .ensures))
+
+mul-old : tie.Need-mul-old Inv-loop μ-loop
+mul-old c = omega arith
+
+element-copy-out-old : tie.Need-element-copy-out-old Inv-loop μ-loop
+element-copy-out-old c = omega arith
+
+old-requires : tie.Need-old-requires Inv-loop μ-loop
+old-requires c κs = tt
+
+of-requires : tie.Need-of-requires Inv-loop μ-loop
+of-requires c κs = tt
+
+plan-of-requires : tie.Need-plan-of-requires Inv-loop μ-loop
 plan-of-requires c κs = tt
 
--- the plan is that of the record under the key
-planned-so : (c : tie.After-plan-of) → let a = c .before .before .before .before .before .args in sound (a .self) ≡ true → c .plan-of .result ≡ planned (plan (lookup (a .self) (keyOf (a .message))) (a .message) (a .mwh .now) (a .prices .now))
-planned-so c h =
-    let v = c .before .before in
-    let a = v .before .before .before .args in
-    c .plan-of .ensures
-    ∙ ap (λ (old : Record). planned (plan old (a .message) (a .mwh .now) (a .prices .now)))
-    (v .view .ensures .1 .1 (v .view .ensures .0 ∙ h) ∙ ap (λ (k : Key). lookup (a .self) k) (v .before .key-of .ensures))
+-- what the message sees, once the walk is at its end
+module _ (c : tie.After-plan-of Inv-loop μ-loop) where
+  abbrev passed : tie.After-loop Inv-loop μ-loop
+  passed = c .before .before .before .before .before .before
 
-conclude-requires : tie.Need-conclude-requires
-conclude-requires c κs =
-    let v = c .before .before in
-    let a = v .before .before .before .args in
-    (v .view .ensures .0, (v .view .ensures .1 .0, apt (a .self) (a .message) (a .mwh .now) (a .prices .now) (c .plan-of .result) (planned-so c)))
+  abbrev g : tie.Start Inv-loop μ-loop
+  g = c .before .before .before .before .before .before .before .before .before .before .before
 
-returns : tie.Need-returns
+  abbrev b : Book
+  b = g .args .self
+
+  abbrev m : Message
+  m = g .args .message
+
+  abbrev ms : List ℕ
+  ms = g .args .mwh .now
+
+  abbrev ps : List ℤ
+  ps = g .args .prices .now
+
+  abbrev key : Key
+  key = c .before .before .before .before .before .before .before .before .before .key-of .result
+
+  abbrev codes : List ℕ
+  codes = passed .before .loop .codes
+
+  abbrev seen : Seen
+  seen = passed .before .loop .seen
+
+  abbrev sight : Sight
+  sight = sightOf seen (b .support) codes (c .before .before .before .before .old .result)
+
+  few : length (b .records) ≡ 256
+  few = size g
+
+  sight-so : c .before .of .result ≡ sight
+  sight-so =
+      let h : SFits w64 (b .support) = search needs in
+      c .before .of .ensures ∙ ap (λ (z : ℤ). sightOf seen z codes (c .before .before .before .before .old .result)) (toZ-ofZ h)
+
+  walked : Walked key (b .records) codes seen 0
+  walked =
+      let z : passed .before .loop .i ≡ 0 = omega (arith, passed .loop-test .left) in
+      subst (λ (n : ℕ). Walked key (b .records) codes seen n) z (passed .before .loop .inv)
+
+  sound-so : sight .sound ≡ sound b
+  sound-so = sound-by b (seen .ranged) codes (all-ranged b key codes seen few walked) (all-coded b key codes seen few walked)
+
+  sees : sound b ≡ true → Sees b (keyOf m) sight
+  sees h =
+      let rs = b .records in
+      let ranged = and-left (seen .ranged) (isSupport (b .support)) (and-left (seen .ranged && isSupport (b .support)) (apart codes) (sound-so ∙ h)) in
+      record {
+        sums = summed b key codes seen few walked ranged;
+        lowest = free-is b key codes seen few walked ranged;
+        place = place-is b key codes seen few walked ranged ∙ ap (λ (k : Key). index (at k) rs) (c .before .before .before .before .before .before .before .before .before .key-of .ensures);
+        under =
+            c .before .before .before .before .old .ensures
+            ∙ looked-up b key codes seen few walked ranged (getD rs (seen .at % 256) blank) (λ lt. let e : seen .at % 256 ≡ seen .at = omega arith in ap (λ (n : ℕ). getD rs n blank) e)
+            ∙ ap (lookup b) (c .before .before .before .before .before .before .before .before .before .key-of .ensures);
+      }
+
+  planned-so : sound b ≡ true → c .plan-of .result ≡ planned (plan (lookup b (keyOf m)) m ms ps)
+  planned-so h = c .plan-of .ensures ∙ ap (λ (old : Record). planned (plan old m ms ps)) (sees h .under)
+
+  apt-so : Apt (c .before .of .result) (c .plan-of .result)
+  apt-so = subst (λ (s : Sight). Apt s (c .plan-of .result)) (sym sight-so) (apt b m ms ps sight few refl sound-so sees (c .plan-of .result) planned-so)
+
+  ends-so : written b (ended (c .before .of .result) (asVerdict (c .plan-of .result))) ≡ step b m ms ps
+  ends-so = ap (λ (s : Sight). written b (ended s (asVerdict (c .plan-of .result)))) sight-so ∙ ends b m ms ps sight few refl sound-so sees (c .plan-of .result) planned-so
+
+ending-requires : tie.Need-ending-requires Inv-loop μ-loop
+ending-requires c κs = apt-so c
+
+mul-new : tie.Need-mul-new Inv-loop μ-loop
+mul-new c = omega (arith, c .if1 .taken)
+
+element-set-from-new : tie.Need-element-set-from-new Inv-loop μ-loop
+element-set-from-new c = c .if1 .taken
+
+returns : tie.Need-returns Inv-loop μ-loop
 returns c =
-    let p = c .before in
-    let a = p .before .before .before .before .before .args in
-    c .conclude .ensures ∙ concludes (a .self) (a .message) (a .mwh .now) (a .prices .now) (p .plan-of .result) (planned-so p)
+    let e = c .before .before .before .ending in
+    let b = c .before .before .before .before .before .before .before .before .before .before .before .before .before .before .before .args .self in
+    let h : SFits w64 (e .result .support) = search needs in
+    (λ i. record { book = record { records = set (b .records) (e .result .place) (e .result .new); support = toZ-ofZ h i }; answer = e .result .answer })
+    ∙ ap (written b) (e .ensures)
+    ∙ ends-so (c .before .before .before .before)
+
+returns-2 : tie.Need-returns-2 Inv-loop μ-loop
+returns-2 c =
+    let e = c .before .before .before .ending in
+    let b = c .before .before .before .before .before .before .before .before .before .before .before .before .before .before .before .args .self in
+    let h : SFits w64 (e .result .support) = search needs in
+    let past : length (b .records) ≤ e .result .place = omega (arith, size (c .before .before .before .before .before .before .before .before .before .before .before .before .before .before .before), c .if1 .left) in
+    (λ i. record { book = record { records = sym (set-out (b .records) (e .result .place) (e .result .new) past) i; support = toZ-ofZ h i }; answer = e .result .answer })
+    ∙ ap (written b) (e .ensures)
+    ∙ ends-so (c .before .before .before .before)
 
 pub apply-spec : {M : Type 1} → statement M
-apply-spec = tie.close (tie.spec key-of-requires view-requires plan-of-requires conclude-requires returns)
+apply-spec =
+    tie.close
+    (tie.spec
+    Inv-loop
+    μ-loop
+    key-of-requires
+    nothing-requires
+    loop-holds
+    sub-i
+    mul-r
+    element-copy-out-r
+    code-requires
+    mul-codes
+    array-write-codes
+    with-requires
+    loop-less
+    loop-again
+    mul-old
+    element-copy-out-old
+    old-requires
+    of-requires
+    plan-of-requires
+    ending-requires
+    mul-new
+    element-set-from-new
+    returns
+    returns-2)

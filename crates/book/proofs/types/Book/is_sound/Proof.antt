@@ -1,15 +1,22 @@
--- `Book::is_sound`: what the view says, under any key.
+-- `Book::is_sound`: refusal 1 is given exactly where the book is not sound.
+use mathlib.Core.Path.{_∙_, ap}
+use mathlib.Core.Bool.{not}
+use lib.Dec.{eqb}
+use Rattle.endings.specs.declared.types.Answer.{Answer}
+use Rattle.endings.specs.Answers.{reply}
+use Rattle.book.proofs.Shown.{sound-shown}
 use Rattle.book.proofs.types.Book.is_sound.Statement.{statement}
 use Rattle.book.proofs.types.Book.is_sound.Tie as tie
 
-blank-requires : tie.Need-blank-requires
-blank-requires c κs = tt
+asked-requires : tie.Need-asked-requires
+asked-requires c κs = tt
 
-view-requires : tie.Need-view-requires
-view-requires c κs = tt
+is-unsound-requires : tie.Need-is-unsound-requires
+is-unsound-requires c κs = tt
 
 returns : tie.Need-returns
-returns c = c .view .ensures .0
+returns c =
+    ap not (c .is-unsound .ensures ∙ ap (λ (x : Answer). eqb (reply x .number) 1) (c .before .asked .ensures)) ∙ sound-shown (c .before .before .args .self)
 
 pub is-sound-spec : {M : Type 1} → statement M
-is-sound-spec = tie.close (tie.spec blank-requires view-requires returns)
+is-sound-spec = tie.close (tie.spec asked-requires is-unsound-requires returns)

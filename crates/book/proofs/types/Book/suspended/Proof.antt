@@ -1,42 +1,56 @@
--- `Book::suspended`: a book that is not sound shows as suspended; else the test on its totals.
+-- `Book::suspended`: not sound, or suspended by the totals that are shown.
+use borrow.Author.Needs.{needs}
 use mathlib.Core.Path.{_≡_, _∙_, sym, ap, subst}
-use mathlib.Core.Bool.{true}
-use borrow.Author.Tests.{not-true, not-false}
-use lib.ListN.{length-map}
+use mathlib.Core.Bool.{false, _||_}
+use lib.Dec.{eqb}
+use lib.ListN.{length, length-map}
+use mir.Syntax.{w64}
+use mir.Val.{SFits, toZ, ofZ}
+use mir.Facts.{toZ-ofZ}
+use Rattle.amounts.proofs.Steps.{back}
+use Rattle.weighing.specs.declared.types.Totals.{Totals}
 use Rattle.weighing.specs.Bounds.{Small}
 use Rattle.weighing.specs.Weighing.{suspended}
-use Rattle.book.specs.Books.{sound, suspendedShown}
-use Rattle.book.proofs.Kept.{sound-places}
-use Rattle.book.proofs.Endings.{totals-small}
+use Rattle.endings.specs.declared.types.Answer.{Answer}
+use Rattle.endings.specs.Answers.{reply}
+use Rattle.book.proofs.Shown.{shown, suspended-shown, small-shown}
 use Rattle.book.proofs.types.Book.suspended.Statement.{statement}
 use Rattle.book.proofs.types.Book.suspended.Tie as tie
 
-blank-requires : tie.Need-blank-requires
-blank-requires c κs = tt
+size : (g : tie.Start) → length (g .args .self .records) ≡ 256
+size g = simp length-map at (g .good .0 .1 .1 .0 .1 .0 .1)
 
-view-requires : tie.Need-view-requires
-view-requires c κs = tt
+asked-requires : tie.Need-asked-requires
+asked-requires c κs = tt
 
-returns : tie.Need-returns
-unfolding suspendedShown
-returns c = rw (sym (c .before .before .view .ensures .0) ∙ not-true _ (c .if1 .taken))
+held-requires : tie.Need-held-requires
+held-requires c κs = tt
+
+owed-requires : tie.Need-owed-requires
+owed-requires c κs = tt
+
+is-unsound-requires : tie.Need-is-unsound-requires
+is-unsound-requires c κs = tt
+
+totals-so : (c : tie.After-is-unsound) → record { support = toZ w64 (ofZ w64 (c .before .before .before .before .before .args .self .support)); held = toZ w64 (ofZ w64 (c .before .before .before .held .result)); owed = toZ w64 (ofZ w64 (c .before .before .owed .result)); full = false } ≡ shown (c .before .before .before .before .before .args .self)
+totals-so c =
+    let asked = c .before .before .before .before .asked .ensures in
+    let z : SFits w64 (c .before .before .before .before .before .args .self .support) = search needs in
+    λ i. record {
+      support = toZ-ofZ z i;
+      held = (back (c .before .before .before .held .result) (c .before .before .before .held .ok) ∙ c .before .before .before .held .ensures ∙ ap (λ (x : Answer). reply x .held) asked) i;
+      owed = (back (c .before .before .owed .result) (c .before .before .owed .ok) ∙ c .before .before .owed .ensures ∙ ap (λ (x : Answer). reply x .owed) asked) i;
+      full = false;
+    }
 
 is-suspended-requires : tie.Need-is-suspended-requires
-is-suspended-requires c κs =
-    let e = c .before in
-    let f = e .before .before in
-    let s = f .before .before in
-    let v = f .view in
-    let yes = not-false _ (e .if1 .left) in
-    subst Small (sym (v .ensures .1 .0 yes)) (totals-small (s .args .self) (sym (v .ensures .0) ∙ yes) (simp length-map at (s .good .0 .1 .1 .0 .1 .0 .1)))
+is-suspended-requires c κs = subst Small (sym (totals-so c)) (small-shown (c .before .before .before .before .before .args .self) (size (c .before .before .before .before .before)))
 
-returns-2 : tie.Need-returns-2
-unfolding suspendedShown
-returns-2 c =
-    let e = c .before .before in
-    let v = e .before .before .view in
-    let yes = not-false _ (e .if1 .left) in
-    rw (sym (v .ensures .0) ∙ yes) (c .is-suspended .ensures ∙ ap suspended (v .ensures .1 .0 yes))
+returns : tie.Need-returns
+returns c =
+    let u = c .before in
+    (λ i. (u .is-unsound .ensures ∙ ap (λ (x : Answer). eqb (reply x .number) 1) (u .before .before .before .before .asked .ensures)) i || (c .is-suspended .ensures ∙ ap suspended (totals-so u)) i)
+    ∙ suspended-shown (c .before .before .before .before .before .before .args .self)
 
 pub suspended-spec : {M : Type 1} → statement M
-suspended-spec = tie.close (tie.spec blank-requires view-requires returns is-suspended-requires returns-2)
+suspended-spec = tie.close (tie.spec asked-requires held-requires owed-requires is-unsound-requires is-suspended-requires returns)

@@ -1,0 +1,68 @@
+-- What a screen is shown is what a message that is always refused answers: a support below 0.
+-- Assumes nothing.
+use mathlib.Core.Path.{_≡_, refl, sym, ap, _∙_}
+use mathlib.Core.Bool.{Bool, true, false, not, cond, _||_}
+use mathlib.Core.List.{[]}
+use native.Mathlib.Omega.{arith}
+use lib.Dec.{eqb}
+use lib.IntN.{negsuc, pos, _*ℤ_}
+use lib.ListN.{length}
+use lib.Signed.{leZ}
+use Rattle.refusals.specs.Refusals.{first, Verdict, refuse, judge, answered}
+use Rattle.plans.specs.declared.types.Deed.{Deed}
+use Rattle.plans.specs.declared.types.Message.{Message}
+use Rattle.plans.specs.declared.types.Message.the-variants.{Support}
+use Rattle.plans.specs.Plan.{keyOf, plan}
+use Rattle.weighing.specs.declared.types.Totals.{Totals}
+use Rattle.weighing.specs.Bounds.{Small}
+use Rattle.weighing.specs.Weighing.{suspended, pass}
+use Rattle.book.specs.Books.{Book, lookup, sound, held, owed, totals, heldShown, owedShown, suspendedShown}
+use Rattle.endings.specs.declared.types.Answer.the-variants.{Refused}
+use Rattle.book.specs.Step.{concluded, outcome, step}
+use Rattle.book.proofs.Verdicts.{verdict-is}
+use Rattle.book.proofs.Written.{totals-small}
+
+abbrev pub question : Message
+question = Support (record { cents = negsuc 0 })
+
+module _ (b : Book) where
+  refused-as : (t : Bool) → sound b ≡ t → outcome b (cond t (pass (totals b) (refuse 9)) (refuse 1)) .answer ≡ Refused (cond t 9 1) (heldShown b) (owedShown b)
+  unfolding outcome pass
+  refused-as true h = refl
+  refused-as false h = refl
+
+  turned : plan (lookup b (keyOf question)) question [] [] ≡ refuse 9
+  unfolding plan judge first answered
+  turned = refl
+
+  pub always-refused : step b question [] [] .answer ≡ Refused (cond (sound b) 9 1) (heldShown b) (owedShown b)
+  unfolding step concluded
+  always-refused =
+      ap (λ (v : Verdict Deed). outcome b v .answer) (verdict-is b question [] [] ∙ ap (concluded b) turned) ∙ refused-as (sound b) refl
+
+  shown-sound : (t : Bool) → not (eqb (cond t 9 1) 1) ≡ t
+  shown-sound true = refl
+  shown-sound false = refl
+
+  pub sound-shown : not (eqb (cond (sound b) 9 1) 1) ≡ sound b
+  sound-shown = shown-sound (sound b)
+
+  -- the totals, as they are shown
+  abbrev pub shown : Totals
+  shown = record { support = b .support; held = heldShown b; owed = owedShown b; full = false }
+
+  pub suspended-shown : (eqb (cond (sound b) 9 1) 1 || suspended shown) ≡ suspendedShown b
+  unfolding owedShown suspendedShown suspended totals
+  suspended-shown = by (sound b) refl
+    where
+      by : (t : Bool) → sound b ≡ t → (eqb (cond t 9 1) 1 || leZ (b .support) (pos 2 *ℤ cond t (owed b) (pos 0))) ≡ cond t (leZ (b .support) (pos 2 *ℤ owed b)) true
+      by true h = refl
+      by false h = refl
+
+  pub small-shown : length (b .records) ≡ 256 → Small shown
+  unfolding heldShown owedShown totals
+  small-shown few = by (sound b) refl
+    where
+      by : (t : Bool) → sound b ≡ t → Small (record { support = b .support; held = cond t (held b) (pos 0); owed = cond t (owed b) (pos 0); full = false })
+      by true h = let s = totals-small b h few in record { held = s .held; owed = s .owed }
+      by false h = record { held = omega arith; owed = omega arith }

@@ -1,0 +1,35 @@
+// What a message sees of a book, how it ends, and what it answers.
+use records::types::Record;
+use weighing::types::Totals;
+
+// All that a message sees of a book.
+pub struct Sight {
+    pub sound: bool,
+    pub totals: Totals,
+    // The lowest free place, and the place of the message's key; 256 where there is none.
+    pub free: u64,
+    pub at: u64,
+    // The record under the message's key, blank where the key is not open.
+    pub old: Record,
+}
+
+// All that is left to write: a record at a place (at 256, none), the support, and the answer.
+pub struct Ending {
+    pub answer: Answer,
+    pub support: i64,
+    pub place: u64,
+    pub new: Record,
+}
+
+pub enum Answer {
+    Accepted {
+        requirement: i64,
+        held: i64,
+        owed: i64,
+    },
+    Refused {
+        number: u64,
+        held: i64,
+        owed: i64,
+    },
+}
