@@ -12,8 +12,8 @@ use Rattle.amounts.specs.Amount.{Range, inRange}
 use Rattle.amounts.specs.Limits.{isQuantity, isBid, isWheel}
 use Rattle.amounts.proofs.Signed.{range-says, range-wider}
 use Rattle.refusals.proofs.Laws.{and-left, and-right, and-both}
-use Rattle.bids.specs.Bids.{unlessExempt, byKind}
-use Rattle.bids.specs.Rows.{isKind, isPointMwh, pendingFits, bidMwhFits}
+use Rattle.kinds.specs.Kinds.{isKind, unlessExempt, byKind}
+use Rattle.bids.specs.Rows.{isPointMwh, pendingFits, bidMwhFits}
 
 -- ---- a range, as a test
 is-true : (t : Bool) → T t → t ≡ true

@@ -18,9 +18,10 @@ use Rattle.amounts.specs.Lists.{every}
 use Rattle.amounts.proofs.Signed.{tested, up-neg, mul-mono, larger-of, times-of, range-true, range-wider}
 use Rattle.refusals.specs.Refusals.{row, first, judge, None, numbered}
 use Rattle.refusals.proofs.Laws.{and-left, and-right, none-applies, none-split, numbered-append, answered-none, answered-some}
+use Rattle.kinds.specs.Kinds.{isKind, differentialFits, kindRow, unlessExempt, byKind}
 use Rattle.bids.specs.Points.{Point, curve, largestMwh, totalMwh, share, mwhAt, Exposure, tried, exposure, wheelExposure}
-use Rattle.bids.specs.Bids.{importBid, unlessExempt, exportBid, hourAheadBid, byKind, bidMwh, bidRequirement}
-use Rattle.bids.specs.Rows.{isKind, isPointMwh, differentialFits, pendingFits, bidMwhFits, pointRows, kindRow, bidRows}
+use Rattle.bids.specs.Bids.{importBid, exportBid, hourAheadBid, bidMwh, bidRequirement}
+use Rattle.bids.specs.Rows.{isPointMwh, pendingFits, bidMwhFits, pointRows, bidRows}
 use Rattle.bids.specs.Entries.{bidAnswer, bidVerdict}
 use Rattle.bids.specs.declared.types.BidAnswer.the-variants.{Stands, Refused}
 use Rattle.bids.proofs.ByKind.{by-kind, pending-plain, pending-wheel, exempt-range, mwh-point, mwh-sum}

@@ -16,9 +16,10 @@ use Rattle.amounts.specs.Lists.{every}
 use Rattle.amounts.proofs.Signed.{signed, tested, larger-of, sum-of}
 use Rattle.refusals.specs.Refusals.{row, None}
 use Rattle.refusals.proofs.Laws.{and-left, and-right, and-both, none-join}
+use Rattle.kinds.specs.Kinds.{differentialFits, byKind}
 use Rattle.bids.specs.Points.{Point, curve, totalMwh, mwhAt, exposure}
-use Rattle.bids.specs.Bids.{exportBid, hourAheadBid, byKind, bidRequirement}
-use Rattle.bids.specs.Rows.{isPointMwh, differentialFits, pointRows, bidRows}
+use Rattle.bids.specs.Bids.{exportBid, hourAheadBid, bidRequirement}
+use Rattle.bids.specs.Rows.{isPointMwh, pointRows, bidRows}
 use Rattle.bids.specs.Joining.{isExport, Joined}
 use Rattle.bids.proofs.Largest.{exposure-is, exposure-only}
 use Rattle.bids.proofs.Curves.{Fit, fit, fit-bid}

@@ -8,11 +8,12 @@ use lib.IntN.{ℤ, pos}
 use Rattle.refusals.specs.declared.Figure.{Figure}
 use Rattle.refusals.specs.declared.Figure.the-variants.{Cents, Refused}
 use Rattle.refusals.specs.Refusals.{Verdict, refuse, accept, judge, None, First}
+use Rattle.kinds.specs.Kinds.{kindRow}
 pub use Rattle.bids.specs.declared.types.Bid.{Bid}
 pub use Rattle.bids.specs.declared.types.BidAnswer.{BidAnswer}
 use Rattle.bids.specs.declared.types.BidAnswer.the-variants.{Stands, Refused as BidRefused}
 use Rattle.bids.specs.Points.{curve, Exposure}
-use Rattle.bids.specs.Rows.{pointRows, kindRow, bidRows}
+use Rattle.bids.specs.Rows.{pointRows, bidRows}
 use Rattle.bids.specs.Bids.{bidMwh, bidRequirement}
 
 -- ---- the cases of an answer

@@ -1,4 +1,4 @@
--- Document 01, 'Turned away, and why': rows 2 and 5 to 8 as they concern the kind, the points and the differential of a bid; and the ranges that a kind gives.
+-- Document 01, 'Turned away, and why': rows 5 to 8 as they concern the points and the differential of a bid; and the ranges that a kind gives.
 -- Assumes nothing.
 use mathlib.Core.Bool.{Bool, not, _&&_, _||_}
 use mathlib.Core.List.{List, [], _∷_, _++_}
@@ -6,21 +6,14 @@ use Prim.Native.Nat.{ℕ}
 use lib.Dec.{leb, eqb}
 use lib.IntN.{ℤ}
 use lib.ListN.{length}
-use Rattle.amounts.specs.Limits.{between, isQuantity, isPrice, isDifferential, isBid, isWheel}
+use Rattle.amounts.specs.Limits.{between, isQuantity, isPrice, isBid, isWheel}
 use Rattle.amounts.specs.Lists.{every}
 use Rattle.refusals.specs.Refusals.{Row, row}
-
--- 01, The book and its kinds
-abbrev pub isKind : ℕ → Bool
-isKind kind = between 1 4 kind
+use Rattle.kinds.specs.Kinds.{differentialFits}
 
 -- 01, Numbers: 'MWh of a point: 0 to 10,000'
 abbrev pub isPointMwh : ℕ → Bool
 isPointMwh mwh = leb mwh 10000
-
--- 01, Numbers: 'differential: 0 to 1,000,000; 0 for kinds 3 and 4'
-abbrev pub differentialFits : ℕ → ℕ → Bool
-differentialFits kind differential = isDifferential differential && (leb kind 2 || eqb differential 0)
 
 -- 01, 'a book is sound': a requirement at 'stages 1 and 2, 0 to 640,000,000,000 (kind 4: to 20,000,000,000)'
 abbrev pub pendingFits : ℕ → ℤ → Bool
@@ -29,10 +22,6 @@ pendingFits kind amount = isBid amount && (not (eqb kind 4) || isWheel amount)
 -- 01, 'a book is sound': 'bid MWh is at most 10,000 for kinds 1 and 4 and 640,000 otherwise'
 abbrev pub bidMwhFits : ℕ → ℕ → Bool
 bidMwhFits kind mwh = isQuantity mwh && (not (eqb kind 1 || eqb kind 4) || isPointMwh mwh)
-
--- 2 'kind not 1 to 4'
-abbrev pub kindRow : ℕ → Row
-kindRow kind = row 2 (not (isKind kind))
 
 -- 5 'point count out of range or lists unequal', 6 'a quantity out of range', 7 'a price out of range'
 unfoldable pub pointRows : List ℕ → List ℤ → List Row

@@ -1,13 +1,13 @@
 // Stage 1: the bid MWh and the requirement of a group, from its points.
-use crate::kinds::differential_fits;
-use crate::kinds::is_kind;
-use crate::kinds::unless_exempt;
 use crate::points::exposure;
 use crate::points::largest_mwh;
 use crate::points::points_refusal;
 use crate::points::total_mwh;
 use crate::points::wheel_exposure;
 use crate::types::BidAnswer;
+use kinds::differential_fits;
+use kinds::is_kind;
+use kinds::unless_exempt;
 use refusals::Figure;
 use refusals::or_else;
 use refusals::pick;
@@ -16,8 +16,9 @@ ghost use mathlib.Core.List.{_∷_};
 ghost use mathlib.Core.Bool.{true};
 ghost use Rattle.amounts.specs.Limits.{isDifferential};
 ghost use Rattle.refusals.specs.Refusals.{first, None};
+ghost use Rattle.kinds.specs.Kinds.{kindRow};
 ghost use Rattle.bids.specs.Points.{curve};
-ghost use Rattle.bids.specs.Rows.{pointRows, kindRow, bidRows};
+ghost use Rattle.bids.specs.Rows.{pointRows, bidRows};
 ghost use Rattle.bids.specs.Bids.{importBid, exportBid, hourAheadBid, bidMwh, bidRequirement};
 ghost use Rattle.bids.specs.Entries.{bidVerdict, bidAnswer, Exposed};
 

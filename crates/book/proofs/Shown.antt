@@ -1,6 +1,6 @@
 -- What a screen is shown is what a message that is always refused answers: a support below 0.
 -- Assumes nothing.
-use mathlib.Core.Path.{_≡_, refl, sym, ap, _∙_}
+use mathlib.Core.Path.{_≡_, refl, ap, _∙_}
 use mathlib.Core.Bool.{Bool, true, false, not, cond, _||_}
 use mathlib.Core.List.{[]}
 use native.Mathlib.Omega.{arith}

@@ -8,15 +8,12 @@ use native.Mathlib.Omega.{arith}
 use lib.Dec.{eqb}
 use lib.IntN.{ℤ}
 use borrow.Author.Tests.{eqb-false}
-use Rattle.refusals.specs.Refusals.{Row, first, Verdict, refuse, accept, judge, answered, orElse, numbered}
+use Rattle.refusals.specs.Refusals.{Row, first, Verdict, refuse, accept, judge, answered, orElse}
 use Rattle.refusals.proofs.Laws.{first-append, answered-some}
 use Rattle.plans.specs.declared.types.Message.{Message}
 use Rattle.plans.specs.declared.types.Deed.{Deed}
-use Rattle.plans.specs.declared.types.Deed.the-variants.{On, Refund}
-use Rattle.plans.specs.declared.types.Change.the-variants.{Add, Redo, Move, Drop}
 use Rattle.plans.specs.Plan.{keyOf, planRows, plan}
 use Rattle.plans.proofs.Fits.{plan-rows-numbered}
-use Rattle.weighing.specs.declared.types.Totals.{Totals}
 use Rattle.weighing.specs.Weighing.{weighRows, weigh, pass}
 use Rattle.book.specs.Books.{Book, lookup, sound, totals}
 use Rattle.book.specs.Step.{askedOf, table, verdict, concluded}

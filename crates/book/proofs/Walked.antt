@@ -17,7 +17,7 @@ use Rattle.records.specs.declared.types.Key.{Key}
 use Rattle.records.specs.declared.types.Record.{Record}
 use Rattle.records.specs.Records.{blank, isFree, at, okPlace}
 use Rattle.weighing.specs.Weights.{owes, weight}
-use Rattle.book.specs.Places.{find, missing, orElseBlank, index}
+use Rattle.book.specs.Places.{index}
 use Rattle.book.specs.Books.{Book, lookup, held, owed, full, totals}
 use Rattle.seen.specs.Codes.{codeOf}
 use Rattle.seen.specs.declared.types.Seen.{Seen}

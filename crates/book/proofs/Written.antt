@@ -4,7 +4,6 @@ use mathlib.Core.Path.{_≡_, refl, sym, ap, _∙_, subst}
 use mathlib.Core.Bool.{Bool, true, false, cond}
 use mathlib.Core.List.{List}
 use mathlib.Core.Logic.{⊎-elim}
-use mathlib.Core.Option.{none, some}
 use Prim.Native.Nat.{ℕ}
 use native.Mathlib.Omega.{arith}
 use lib.IntN.{ℤ, pos, _+ℤ_, _-ℤ_}
@@ -13,8 +12,8 @@ use lib.Seq.{set-out}
 use Rattle.amounts.specs.Lists.{total}
 use Rattle.amounts.specs.Amount.{Within}
 use Rattle.amounts.proofs.Signed.{signed, sum-of, difference-of}
-use Rattle.refusals.specs.Refusals.{None, Verdict, refuse, accept, judge}
-use Rattle.refusals.proofs.Laws.{never, judge-accept}
+use Rattle.refusals.specs.Refusals.{None, Verdict, refuse, accept}
+use Rattle.refusals.proofs.Laws.{judge-accept}
 use Rattle.plans.specs.declared.types.Message.{Message}
 use Rattle.plans.specs.declared.types.Change.{Change}
 use Rattle.plans.specs.declared.types.Change.the-variants.{Add, Redo, Move, Drop}
@@ -25,26 +24,25 @@ use Rattle.plans.specs.declared.types.Planned.the-variants.{Refused as Turned, 
 use Rattle.records.specs.declared.types.Key.{Key}
 use Rattle.records.specs.declared.types.Record.{Record}
 use Rattle.records.specs.Records.{blank, isFree, at, okPlace}
-use Rattle.records.proofs.Keys.{ok-place, ok-blank, free-blank}
+use Rattle.records.proofs.Keys.{ok-place, ok-blank}
 use Rattle.records.proofs.Bounds.{requirement-bounded}
 use Rattle.plans.specs.Plan.{keyOf, plan, planned}
 use Rattle.plans.proofs.Fits.{Fits, fits}
-use Rattle.weighing.specs.declared.types.Totals.{Totals}
 use Rattle.weighing.specs.Weights.{owes}
 use Rattle.weighing.specs.Weighing.{weighRows, weigh, answeredBy, pass}
 use Rattle.weighing.specs.Bounds.{Small}
 use Rattle.weighing.proofs.Rows.{weigh-rows-numbered}
-use Rattle.book.specs.Places.{find, swap, index}
+use Rattle.book.specs.Places.{swap, index}
 use Rattle.book.specs.Books.{Book, lookup, sound, held, owed, totals, heldShown, owedShown}
 use Rattle.endings.specs.declared.types.Answer.the-variants.{Accepted, Refused}
 use Rattle.book.specs.Step.{Outcome, concluded, change, done, outcome, step}
 use Rattle.endings.specs.declared.types.Sight.{Sight}
 use Rattle.endings.specs.declared.types.Ending.{Ending}
-use Rattle.endings.specs.Endings.{Fair, Ready, Apt, asVerdict, still, unsound, turnedAway, putIn, carriedOut, endingOf, ended}
+use Rattle.endings.specs.Endings.{Fair, Ready, Apt, asVerdict, unsound, turnedAway, putIn, carriedOut, endingOf, ended}
 use Rattle.book.proofs.Passed.{swap-set}
 use Rattle.book.proofs.Sums.{total-bounded}
-use Rattle.book.proofs.Effect.{Effect, weight}
-use Rattle.book.proofs.Kept.{sound-places, lookup-under, lookup-none, lookup-some, leaves, effect}
+use Rattle.book.proofs.Effect.{weight}
+use Rattle.book.proofs.Kept.{sound-places, lookup-under, lookup-none, lookup-some, effect}
 use Rattle.book.proofs.Verdicts.{verdict-is}
 
 -- a sound book's totals are sums of 256 requirements in range

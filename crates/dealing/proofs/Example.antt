@@ -8,11 +8,12 @@ use lib.IntN.{ℤ, pos, negsuc}
 use Rattle.amounts.specs.Lists.{sum, every}
 use Rattle.refusals.specs.Refusals.{first, answered, judge}
 use Rattle.refusals.proofs.Laws.{never}
+use Rattle.kinds.specs.Kinds.{unlessExempt, byKind}
 use Rattle.bids.specs.Rows.{pointRows, bidRows}
-use Rattle.bids.specs.Bids.{importBid, unlessExempt, exportBid, hourAheadBid, byKind, bidMwh, bidRequirement}
+use Rattle.bids.specs.Bids.{importBid, exportBid, hourAheadBid, bidMwh, bidRequirement}
 use Rattle.bids.specs.Entries.{bidVerdict}
 use Rattle.bids.specs.Points.{largestMwh, totalMwh, mwhAt, tried, exposure, wheelExposure}
-use Rattle.formulas.specs.Rows.{deliveryRows, postedRows, finishedRows, billRows}
+use Rattle.deliveries.specs.Rows.{deliveryRows, postedRows, finishedRows, billRows}
 use Rattle.formulas.specs.Stages.{importPosted, balancing, importFinished, exportPosted, exportFinished, hourAheadFinished, wheelPosted, wheelFinished, postedRequirement, finishedRequirement}
 use Rattle.formulas.specs.Entries.{postedVerdict, finishedVerdict}
 use Rattle.records.specs.declared.types.Key.{Key}

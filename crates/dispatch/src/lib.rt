@@ -26,13 +26,13 @@ pub fn plan_of(message: Message, old: Record, mwh: &[u64], prices: &[i64]) -> Pl
     ensures { λ r. ⌜ r ≡ planned (plan old message (now (mwh .entry)) (now (prices .entry))) ⌝ }
 {
     match message {
-        Message::Open(opening) => opening.open(old, mwh, prices),
-        Message::Revise(opening) => opening.revise(old, mwh, prices),
-        Message::Withdraw(key) => plans::withdraw(key, old),
-        Message::Post(posting) => posting.plan(old),
-        Message::Finish(finishing) => finishing.plan(old),
-        Message::Bill(billing) => billing.plan(old),
-        Message::Pay(key) => plans::pay(key, old),
-        Message::Support(funding) => funding.plan(),
+        Message::Open(opening) => openings::open(opening, old, mwh, prices),
+        Message::Revise(opening) => openings::revise(opening, old, mwh, prices),
+        Message::Withdraw(key) => moves::withdraw(key, old),
+        Message::Post(posting) => moves::post(posting, old),
+        Message::Finish(finishing) => moves::finish(finishing, old),
+        Message::Bill(billing) => moves::bill(billing, old),
+        Message::Pay(key) => moves::pay(key, old),
+        Message::Support(funding) => moves::support(funding),
     }
 }

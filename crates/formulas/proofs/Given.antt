@@ -15,8 +15,9 @@ use Rattle.amounts.proofs.Signed.{range-true}
 use Rattle.amounts.proofs.Steps.{Known, param, quantity}
 use Rattle.refusals.specs.Refusals.{None}
 use Rattle.refusals.proofs.Laws.{and-left, and-right}
-use Rattle.bids.specs.Rows.{differentialFits, pendingFits}
-use Rattle.formulas.specs.Rows.{pricesFit, deliveryRows, postedRows, finishedRows}
+use Rattle.kinds.specs.Kinds.{differentialFits}
+use Rattle.bids.specs.Rows.{pendingFits}
+use Rattle.deliveries.specs.Rows.{pricesFit, deliveryRows, postedRows, finishedRows}
 
 -- ---- a parameter that passed its test, as the code reads it
 

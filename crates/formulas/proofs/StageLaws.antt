@@ -1,4 +1,4 @@
--- How large the amounts of the stages are, that no row of an entry has the number 0, and what an entry answers by its rows.
+-- How large the amounts of the stages are, and what an entry answers by its rows.
 -- Assumes nothing.
 use mathlib.Core.Path.{_≡_, refl, ap, subst}
 use mathlib.Core.Bool.{Bool, true, false}
@@ -12,15 +12,15 @@ use lib.IntN.{ℤ, pos, negℤ, _+ℤ_, _-ℤ_, _*ℤ_}
 use Rattle.amounts.specs.Amount.{up, down, Max, Range}
 use Rattle.amounts.specs.Limits.{isQuantity, isPrice, isDifferential, isBid, isWheel, isFinished}
 use Rattle.amounts.proofs.Signed.{sum-of, difference-of, larger-of, times-of, mul-mono, max-gap, tested, range-true, range-wider, range-add, range-sub, range-max, range-times, range-mul}
-use Rattle.refusals.specs.Refusals.{Row, first, None, numbered, judge}
+use Rattle.refusals.specs.Refusals.{Row, first, None, judge}
 use Rattle.refusals.specs.declared.Figure.the-variants.{Cents, Refused}
 use Rattle.refusals.specs.Figures.{figure}
 use Rattle.refusals.proofs.Laws.{and-right, answered-some, judge-none}
-use Rattle.bids.specs.Bids.{byKind}
-use Rattle.bids.specs.Rows.{isKind, isPointMwh, kindRow, pendingFits, bidMwhFits}
+use Rattle.kinds.specs.Kinds.{isKind, kindRow, byKind}
+use Rattle.bids.specs.Rows.{isPointMwh, pendingFits, bidMwhFits}
 use Rattle.bids.proofs.ByKind.{range-test, by-kind, pending-plain, pending-wheel, exempt-range}
 use Rattle.formulas.specs.Stages.{importPosted, balancing, importFinished, exportPosted, exportFinished, hourAheadFinished, wheelPosted, wheelFinished, postedRequirement, finishedRequirement}
-use Rattle.formulas.specs.Rows.{deliveryRows, postedRows, finishedRows, billRows}
+use Rattle.deliveries.specs.Rows.{postedRows, finishedRows, billRows}
 use Rattle.formulas.specs.Entries.{postedVerdict, finishedVerdict, billedVerdict}
 use Rattle.formulas.proofs.Given.{posting, finish, pending-bid}
 
@@ -130,21 +130,6 @@ unfolding None finishedRows finishedRequirement byKind wheelFinished
 finished-met = ((refl, (refl, (refl, (refl, tt)))), refl)
 
 -- ---- no row has the number 0
-pub delivery-rows-numbered : (kind mwh : ℕ) (price second : ℤ) → numbered (deliveryRows kind mwh price second) ≡ true
-unfolding numbered deliveryRows
-delivery-rows-numbered kind mwh price second = refl
-
-pub posted-rows-numbered : (kind differential schedule : ℕ) (price second : ℤ) → numbered (kindRow kind ∷ postedRows kind differential schedule price second) ≡ true
-unfolding numbered postedRows deliveryRows
-posted-rows-numbered kind differential schedule price second = refl
-
-pub finished-rows-numbered : (kind schedule : ℕ) (dayAhead posted : ℤ) (actual : ℕ) (price second : ℤ) → numbered (kindRow kind ∷ finishedRows kind schedule dayAhead posted actual price second) ≡ true
-unfolding numbered finishedRows
-finished-rows-numbered kind schedule dayAhead posted actual price second = refl
-
-pub bill-rows-numbered : (amount : ℤ) → numbered (billRows amount) ≡ true
-unfolding numbered billRows
-bill-rows-numbered amount = refl
 
 -- ---- what an entry answers, by whether a row applies
 figure-cents : (rows : List Row) (z : ℤ) → None rows → figure (judge rows z) ≡ Cents z

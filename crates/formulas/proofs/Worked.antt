@@ -5,9 +5,10 @@ use mathlib.Core.Bool.{false}
 use mathlib.Core.List.{List, [], _∷_}
 use Prim.Native.Nat.{ℕ}
 use lib.IntN.{ℤ, pos, negℤ}
+use Rattle.kinds.specs.Kinds.{unlessExempt, byKind}
 use Rattle.bids.specs.Points.{curve, largestMwh, totalMwh, mwhAt, tried, exposure, wheelExposure}
 use Rattle.bids.specs.declared.types.Point.{Point}
-use Rattle.bids.specs.Bids.{importBid, unlessExempt, exportBid, hourAheadBid, byKind, bidRequirement}
+use Rattle.bids.specs.Bids.{importBid, exportBid, hourAheadBid, bidRequirement}
 use Rattle.formulas.specs.Stages.{importPosted, balancing, importFinished, exportPosted, exportFinished, hourAheadFinished, wheelPosted, wheelFinished, postedRequirement, finishedRequirement}
 
 -- the curves of the examples

@@ -5,8 +5,8 @@ use mathlib.Core.List.{_∷_}
 use Prim.Native.Nat.{ℕ}
 use lib.IntN.{ℤ}
 use Rattle.refusals.specs.Refusals.{Verdict, judge}
-use Rattle.bids.specs.Rows.{kindRow}
-use Rattle.formulas.specs.Rows.{postedRows, finishedRows, billRows}
+use Rattle.kinds.specs.Kinds.{kindRow}
+use Rattle.deliveries.specs.Rows.{postedRows, finishedRows, billRows}
 use Rattle.formulas.specs.Stages.{postedRequirement, finishedRequirement}
 
 -- stage 2

@@ -5,7 +5,7 @@ use mathlib.Core.Bool.{Bool}
 use Prim.Native.Nat.{ℕ, _*_}
 use lib.IntN.{ℤ, pos, _+ℤ_, _-ℤ_, _*ℤ_}
 use Rattle.amounts.specs.Amount.{Max}
-use Rattle.bids.specs.Bids.{unlessExempt, byKind}
+use Rattle.kinds.specs.Kinds.{unlessExempt, byKind}
 
 -- ---- Import (000, 'External Suppliers'; 001, 26.4.2.2.1)
 

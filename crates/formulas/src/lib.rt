@@ -2,6 +2,5 @@
 mod stages;
 
 pub use stages::billed;
-pub use stages::delivery_refusal;
 pub use stages::finished;
 pub use stages::posted;

@@ -1,83 +1,19 @@
 // The stages after the bid: posted, finished and billed, each by the kind of transaction.
 ghost use mathlib.Core.Path.{_≡_};
 ghost use mathlib.Core.Bool.{true};
-ghost use mathlib.Core.List.{_∷_};
 ghost use lib.IntN.{pos, _-ℤ_};
 ghost use Rattle.amounts.specs.Amount.{Max};
 ghost use Rattle.amounts.specs.Limits.{isQuantity, isPrice, isDifferential, isBid};
-ghost use Rattle.refusals.specs.Refusals.{first, None};
+ghost use Rattle.refusals.specs.Refusals.{None};
 ghost use Rattle.refusals.specs.Figures.{figure};
-ghost use Rattle.bids.specs.Rows.{kindRow, pendingFits};
 ghost use Rattle.formulas.specs.Stages.{importPosted, balancing, importFinished, exportPosted, exportFinished, hourAheadFinished, wheelPosted, wheelFinished, postedRequirement, finishedRequirement};
-ghost use Rattle.formulas.specs.Rows.{pricesFit, deliveryRows, postedRows, finishedRows, billRows};
+ghost use Rattle.deliveries.specs.Rows.{postedRows, finishedRows};
 ghost use Rattle.formulas.specs.Entries.{postedVerdict, finishedVerdict, billedVerdict};
-use bids::differential_fits;
-use bids::is_kind;
-use bids::unless_exempt;
+use deliveries::bill_refusal;
+use deliveries::finished_refusal;
+use deliveries::posted_refusal;
+use kinds::unless_exempt;
 use refusals::Figure;
-
-// ---- the rows that refuse
-
-fn prices_fit(kind: u64, price: i64, second: i64) -> bool
-    ensures { λ r. ⌜ r ≡ pricesFit kind price second ⌝ }
-{
-    amounts::Price { cents: price }.in_range()
-        & amounts::Price { cents: second }.in_range()
-        & ((kind == 4) | amounts::Price { cents: second }.is_nil())
-}
-
-fn pending_fits(kind: u64, cents: i64) -> bool
-    ensures { λ r. ⌜ r ≡ pendingFits kind cents ⌝ }
-{
-    amounts::Amount { cents }.is_bid() & (!(kind == 4) | amounts::Amount { cents }.is_wheel())
-}
-
-// Refusals 6 and 7 of a post or a finish; 0 is none.
-pub fn delivery_refusal(kind: u64, mwh: u64, price: i64, second: i64) -> u64
-    ensures { λ r. ⌜ r ≡ first (deliveryRows kind mwh price second) ⌝ }
-{
-    let prices = refusals::pick(!prices_fit(kind, price, second), 7, 0);
-    refusals::pick(!amounts::Quantity { mwh }.in_range(), 6, prices)
-}
-
-fn posted_refusal(kind: u64, differential: u64, schedule: u64, price: i64, second: i64) -> u64
-    ensures { λ r. ⌜ r ≡ first (kindRow kind ∷ postedRows kind differential schedule price second) ⌝ }
-{
-    let delivery = delivery_refusal(kind, schedule, price, second);
-    let not_for_hour_ahead = refusals::pick(kind == 3, 12, 0);
-    let below = refusals::pick(
-        !differential_fits(kind, differential),
-        8,
-        not_for_hour_ahead,
-    );
-    refusals::pick(!is_kind(kind), 2, refusals::or_else(delivery, below))
-}
-
-fn finished_refusal(
-    kind: u64,
-    schedule: u64,
-    day_ahead: i64,
-    posted_cents: i64,
-    actual: u64,
-    price: i64,
-    second: i64,
-) -> u64
-    ensures { λ r. ⌜ r ≡ first (kindRow kind ∷ finishedRows kind schedule «day_ahead» «posted_cents» actual price second) ⌝ }
-{
-    let amount = refusals::pick(!pending_fits(kind, posted_cents), 9, 0);
-    let priced = amounts::Price { cents: day_ahead }.in_range() & prices_fit(kind, price, second);
-    let prices = refusals::pick(!priced, 7, amount);
-    let counted = amounts::Quantity { mwh: schedule }.in_range()
-        & amounts::Quantity { mwh: actual }.in_range();
-    let quantities = refusals::pick(!counted, 6, prices);
-    refusals::pick(!is_kind(kind), 2, quantities)
-}
-
-fn bill_refusal(amount: i64) -> u64
-    ensures { λ r. ⌜ r ≡ first (billRows amount) ⌝ }
-{
-    refusals::pick(!amounts::Amount { cents: amount }.is_bill(), 9, 0)
-}
 
 // ---- import
 

@@ -10,7 +10,8 @@ use borrow.Author.Tests.{eqb-true, not-false}
 use Rattle.amounts.specs.Limits.{isPrice, isNil, isBill, isSupport}
 use Rattle.refusals.specs.Refusals.{None, accept}
 use Rattle.refusals.proofs.Laws.{and-left, and-both, judge-accept}
-use Rattle.bids.specs.Rows.{differentialFits, pendingFits, bidMwhFits}
+use Rattle.kinds.specs.Kinds.{differentialFits}
+use Rattle.bids.specs.Rows.{pendingFits, bidMwhFits}
 use Rattle.bids.specs.declared.types.Bid.{Bid}
 use Rattle.bids.proofs.Curves.{bid-bounded, mwh-bounded, fit-bid}
 use Rattle.formulas.proofs.StageLaws.{posted-bounded, finished-bounded}

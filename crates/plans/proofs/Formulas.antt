@@ -9,10 +9,11 @@ use Rattle.refusals.proofs.Laws.{judge-none}
 use Rattle.bids.specs.Points.{curve}
 use Rattle.bids.specs.Bids.{bidMwh, bidRequirement}
 use Rattle.formulas.specs.Stages.{postedRequirement, finishedRequirement}
-use Rattle.bids.specs.Rows.{kindRow, bidRows}
-use Rattle.formulas.specs.Rows.{postedRows, finishedRows}
+use Rattle.bids.specs.Rows.{bidRows}
+use Rattle.deliveries.specs.Rows.{postedRows, finishedRows}
 use Rattle.bids.specs.declared.types.Bid.{Bid}
 use Rattle.refusals.specs.Figures.{centsOf, figure}
+use Rattle.kinds.specs.Kinds.{kindRow}
 use Rattle.bids.specs.Entries.{bidOf, bidAnswer, bidVerdict}
 use Rattle.formulas.specs.Entries.{postedVerdict, finishedVerdict}
 use Rattle.records.specs.declared.types.Record.{Record}

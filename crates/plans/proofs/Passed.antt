@@ -12,8 +12,9 @@ use borrow.Author.Tests.{leb-true, le-leb, eqb-true, not-true, not-false}
 use Rattle.amounts.specs.Limits.{isQuantity, isPrice, isNil, isBill}
 use Rattle.refusals.specs.Refusals.{row, None}
 use Rattle.refusals.proofs.Laws.{never, and-left, and-right, and-both, none-split}
-use Rattle.bids.specs.Rows.{isKind, isPointMwh, bidMwhFits, kindRow, bidRows}
-use Rattle.formulas.specs.Rows.{pricesFit, deliveryRows, postedRows, finishedRows, billRows}
+use Rattle.kinds.specs.Kinds.{isKind, kindRow}
+use Rattle.bids.specs.Rows.{isPointMwh, bidMwhFits, bidRows}
+use Rattle.deliveries.specs.Rows.{pricesFit, deliveryRows, postedRows, finishedRows, billRows}
 use Rattle.records.specs.declared.types.Key.{Key}
 use Rattle.records.specs.declared.types.Record.{Record}
 use Rattle.records.specs.Records.{blank, isFree, at, okPlace, isPath, isHour, keyFits, implies, okRecord}

@@ -9,14 +9,15 @@ use lib.IntN.{ℤ}
 use borrow.Author.Tests.{eqb-true}
 use Rattle.refusals.specs.Refusals.{Row, row, first, refuse, accept, answered, judge, orElse, numbered}
 use Rattle.refusals.proofs.Laws.{first-append, numbered-append}
-use Rattle.bids.specs.Rows.{isKind, kindRow, bidRows}
-use Rattle.formulas.specs.Rows.{deliveryRows, billRows}
+use Rattle.bids.specs.Rows.{bidRows}
+use Rattle.deliveries.specs.Rows.{deliveryRows, billRows}
 use Rattle.bids.specs.declared.types.Bid.{Bid}
 use Rattle.refusals.specs.Figures.{refusalOf, figure}
+use Rattle.kinds.specs.Kinds.{isKind, kindRow}
 use Rattle.bids.specs.Entries.{bidRefusalOf, bidAnswer, bidVerdict}
 use Rattle.formulas.specs.Entries.{billedVerdict}
 use Rattle.bids.proofs.Curves.{bid-rows-numbered}
-use Rattle.formulas.proofs.StageLaws.{delivery-rows-numbered, bill-rows-numbered}
+use Rattle.deliveries.proofs.Numbered.{delivery-rows-numbered, bill-rows-numbered}
 use Rattle.records.specs.declared.types.Key.{Key}
 use Rattle.records.specs.declared.types.Record.{Record}
 use Rattle.records.specs.Records.{isFree}

@@ -9,7 +9,7 @@ use lib.IntN.{ℤ, pos}
 use Rattle.amounts.specs.Limits.{isSupport}
 use Rattle.refusals.specs.Refusals.{Row, row, Verdict, refuse, accept, judge}
 use Rattle.bids.specs.Rows.{bidRows}
-use Rattle.formulas.specs.Rows.{deliveryRows, billRows}
+use Rattle.deliveries.specs.Rows.{deliveryRows, billRows}
 use Rattle.bids.specs.declared.types.Bid.{Bid}
 use Rattle.refusals.specs.Figures.{figure, centsOf}
 use Rattle.bids.specs.Entries.{bidAnswer, bidOf, bidVerdict}

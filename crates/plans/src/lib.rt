@@ -1,6 +1,6 @@
-// What each message asks of the record under its key, or refusals 2 to 13.
-pub mod plans;
+// What a message is, and what it asks of the record under its key, or refusals 2 to 13: the types, the definitions and their laws. `openings` and `moves` compute it.
+mod answers;
 pub mod types;
 
-pub use plans::pay;
-pub use plans::withdraw;
+pub use answers::answer;
+pub use answers::stage_refusal;

@@ -11,7 +11,7 @@ use borrow.Author.Tests.{eq-eqb}
 use Rattle.refusals.specs.Refusals.{Row, first}
 use Rattle.refusals.proofs.Laws.{and-left, and-right, and-both, never}
 use Rattle.bids.specs.Rows.{pointRows, bidRows}
-use Rattle.formulas.specs.Rows.{deliveryRows, billRows}
+use Rattle.deliveries.specs.Rows.{deliveryRows, billRows}
 use Rattle.records.specs.declared.types.Record.{Record}
 use Rattle.records.specs.Records.{keyRows}
 use Rattle.plans.specs.declared.types.Message.{Message}

@@ -3,8 +3,9 @@
 use mathlib.Core.Path.{_≡_, refl}
 use mathlib.Core.Bool.{Bool, true, false, _&&_, _||_}
 use mathlib.Core.Logic.{_⊎_, inl, inr}
-use Rattle.bids.specs.Rows.{differentialFits, bidMwhFits}
+use Rattle.bids.specs.Rows.{bidMwhFits}
 use Rattle.refusals.proofs.Laws.{never, and-left, and-right}
+use Rattle.kinds.specs.Kinds.{differentialFits}
 use Rattle.records.specs.Records.{Record, implies, keyFits, stageFits, scheduleFits, dayAheadFits, exemptFits, requirementFits, okRecord}
 
 -- ---- tests

@@ -5,9 +5,10 @@ use Prim.Native.Nat.{ℕ}
 use lib.Dec.{leb, eqb}
 use lib.IntN.{ℤ, pos}
 use Rattle.amounts.specs.Limits.{between, isPrice, isNil, isBill, isFinished}
-use Rattle.bids.specs.Rows.{isKind, differentialFits, pendingFits, bidMwhFits}
+use Rattle.bids.specs.Rows.{pendingFits, bidMwhFits}
 use mathlib.Core.List.{List, [], _∷_}
 use Rattle.refusals.specs.Refusals.{Row, row}
+use Rattle.kinds.specs.Kinds.{isKind, differentialFits}
 pub use Rattle.records.specs.declared.types.Key.{Key}
 pub use Rattle.records.specs.declared.types.Record.{Record}
 

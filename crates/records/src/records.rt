@@ -1,7 +1,8 @@
 // Tests of one key and one record: straight-line expressions, clause by clause as document 01 lists them.
 ghost use mathlib.Core.Path.{_≡_};
 ghost use Rattle.refusals.specs.Refusals.{first};
-ghost use Rattle.bids.specs.Rows.{isKind, differentialFits, bidMwhFits};
+ghost use Rattle.kinds.specs.Kinds.{differentialFits};
+ghost use Rattle.bids.specs.Rows.{bidMwhFits};
 ghost use Rattle.records.specs.Records.{blank, isBlank, isFree, sameKey, at, keyFits, stageFits, scheduleFits, dayAheadFits, exemptFits, requirementFits, okRecord, okPlace};
 ghost use Rattle.records.specs.Records.{keyRows};
 use crate::types::Key;

@@ -27,20 +27,20 @@ withdraw-requires c κs = tt
 enum-known-message-4 : tie.Need-enum-known-message-4
 enum-known-message-4 c = search needs
 
-plan-requires : tie.Need-plan-requires
-plan-requires c κs = tt
+post-requires : tie.Need-post-requires
+post-requires c κs = tt
 
 enum-known-message-5 : tie.Need-enum-known-message-5
 enum-known-message-5 c = search needs
 
-plan-requires-2 : tie.Need-plan-requires-2
-plan-requires-2 c κs = tt
+finish-requires : tie.Need-finish-requires
+finish-requires c κs = tt
 
 enum-known-message-6 : tie.Need-enum-known-message-6
 enum-known-message-6 c = search needs
 
-plan-requires-3 : tie.Need-plan-requires-3
-plan-requires-3 c κs = tt
+bill-requires : tie.Need-bill-requires
+bill-requires c κs = tt
 
 enum-known-message-7 : tie.Need-enum-known-message-7
 enum-known-message-7 c = search needs
@@ -51,8 +51,8 @@ pay-requires c κs = tt
 enum-known-message-8 : tie.Need-enum-known-message-8
 enum-known-message-8 c = search needs
 
-plan-requires-4 : tie.Need-plan-requires-4
-plan-requires-4 c κs = tt
+support-requires : tie.Need-support-requires
+support-requires c κs = tt
 
 returns : tie.Need-returns
 returns c =
@@ -78,21 +78,21 @@ unfolding plan
 returns-4 c =
     let k = c .before .before in
     let a = k .before .before .before .args in
-    c .plan .ensures ∙ ap (λ (m : Message). planned (plan (a .old) m (a .mwh .now) (a .prices .now))) (sym (k .message4 .given .1))
+    c .post .ensures ∙ ap (λ (m : Message). planned (plan (a .old) m (a .mwh .now) (a .prices .now))) (sym (k .message4 .given .1))
 
 returns-5 : tie.Need-returns-5
 unfolding plan
 returns-5 c =
     let k = c .before .before in
     let a = k .before .before .before .args in
-    c .plan2 .ensures ∙ ap (λ (m : Message). planned (plan (a .old) m (a .mwh .now) (a .prices .now))) (sym (k .message5 .given .1))
+    c .finish .ensures ∙ ap (λ (m : Message). planned (plan (a .old) m (a .mwh .now) (a .prices .now))) (sym (k .message5 .given .1))
 
 returns-6 : tie.Need-returns-6
 unfolding plan
 returns-6 c =
     let k = c .before .before in
     let a = k .before .before .before .args in
-    c .plan3 .ensures ∙ ap (λ (m : Message). planned (plan (a .old) m (a .mwh .now) (a .prices .now))) (sym (k .message6 .given .1))
+    c .bill .ensures ∙ ap (λ (m : Message). planned (plan (a .old) m (a .mwh .now) (a .prices .now))) (sym (k .message6 .given .1))
 
 returns-7 : tie.Need-returns-7
 unfolding plan
@@ -106,7 +106,7 @@ unfolding plan
 returns-8 c =
     let k = c .before .before in
     let a = k .before .before .before .args in
-    c .plan4 .ensures ∙ ap (λ (m : Message). planned (plan (a .old) m (a .mwh .now) (a .prices .now))) (sym (k .message8 .given .1))
+    c .support .ensures ∙ ap (λ (m : Message). planned (plan (a .old) m (a .mwh .now) (a .prices .now))) (sym (k .message8 .given .1))
 
 pub plan-of-spec : {M : Type 1} → statement M
 plan-of-spec =
@@ -119,15 +119,15 @@ plan-of-spec =
     enum-known-message-3
     withdraw-requires
     enum-known-message-4
-    plan-requires
+    post-requires
     enum-known-message-5
-    plan-requires-2
+    finish-requires
     enum-known-message-6
-    plan-requires-3
+    bill-requires
     enum-known-message-7
     pay-requires
     enum-known-message-8
-    plan-requires-4
+    support-requires
     returns
     returns-2
     returns-3

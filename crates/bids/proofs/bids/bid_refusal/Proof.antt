@@ -3,7 +3,8 @@ use mathlib.Core.Bool.{not}
 use mathlib.Core.List.{[], _∷_}
 use Rattle.refusals.specs.Refusals.{row, first}
 use Rattle.refusals.proofs.Laws.{first-append}
-use Rattle.bids.specs.Rows.{differentialFits, pointRows, bidRows}
+use Rattle.kinds.specs.Kinds.{differentialFits}
+use Rattle.bids.specs.Rows.{pointRows, bidRows}
 use Rattle.bids.proofs.Curves.{point-rows-numbered}
 use Rattle.bids.proofs.bids.bid_refusal.Statement.{statement}
 use Rattle.bids.proofs.bids.bid_refusal.Tie as tie

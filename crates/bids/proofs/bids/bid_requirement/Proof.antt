@@ -1,7 +1,8 @@
 -- `bids::bid_requirement`: each kind by its own formula.
 use mathlib.Core.Path.{sym, ap, _∙_}
 use Rattle.amounts.proofs.Steps.{back}
-use Rattle.bids.specs.Bids.{unlessExempt, bidRequirement}
+use Rattle.kinds.specs.Kinds.{unlessExempt}
+use Rattle.bids.specs.Bids.{bidRequirement}
 use Rattle.bids.proofs.ByKind.{kind-1, kind-2, kind-3, kind-4}
 use Rattle.bids.proofs.bids.bid_requirement.Statement.{statement}
 use Rattle.bids.proofs.bids.bid_requirement.Tie as tie

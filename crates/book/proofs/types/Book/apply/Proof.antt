@@ -1,5 +1,5 @@
 -- `Book::apply`: the walk has seen all places (proofs/Walked.antt), and the ending, written, is the step (proofs/Written.antt).
-use Prim.Native.Nat.{ℕ, _<_, _≤_, _-_, _%_}
+use Prim.Native.Nat.{ℕ, _≤_, _-_, _%_}
 use native.Mathlib.Omega.{arith}
 use mathlib.Core.Path.{_≡_, refl, sym, ap, _∙_, subst}
 use mathlib.Core.Bool.{true, _&&_}

@@ -8,7 +8,6 @@ use mir.Syntax.{w64}
 use mir.Val.{SFits, toZ, ofZ}
 use mir.Facts.{toZ-ofZ}
 use Rattle.amounts.proofs.Steps.{back}
-use Rattle.weighing.specs.declared.types.Totals.{Totals}
 use Rattle.weighing.specs.Bounds.{Small}
 use Rattle.weighing.specs.Weighing.{suspended}
 use Rattle.endings.specs.declared.types.Answer.{Answer}

@@ -1,6 +1,6 @@
 -- `Answer::is_unsound`: by the answer's case.
 use borrow.Author.Needs.{needs}
-use mathlib.Core.Path.{_∙_, sym, ap}
+use mathlib.Core.Path.{sym, ap}
 use Rattle.endings.specs.Answers.{Answer, reply}
 use lib.Dec.{eqb}
 use Rattle.endings.proofs.types.Answer.is_unsound.Statement.{statement}

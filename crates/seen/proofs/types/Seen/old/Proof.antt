@@ -1,7 +1,5 @@
 -- `Seen::old`: what stands at the key's place, if it has one.
-use borrow.Author.Needs.{needs}
 use borrow.Author.Tests.{lt-ltb, le-ltb}
-use mathlib.Core.Path.{_∙_, sym, ap}
 use Rattle.seen.proofs.types.Seen.old.Statement.{statement}
 use Rattle.seen.proofs.types.Seen.old.Tie as tie
 

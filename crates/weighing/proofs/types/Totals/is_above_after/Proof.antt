@@ -1,14 +1,12 @@
 -- `Totals::is_above_after`: held less one requirement and one more fit; the two tests are the row's.
 use borrow.Author.Needs.{needs}
-use mathlib.Core.Path.{_≡_, refl, sym, ap, _∙_}
 use mathlib.Core.Bool.{_&&_}
-use lib.IntN.{ℤ, pos, _+ℤ_, _-ℤ_, _*ℤ_}
-use lib.Signed.{ltZ, leZ}
+use lib.IntN.{ℤ, _+ℤ_, _-ℤ_}
+use lib.Signed.{ltZ}
 use mir.Syntax.{w64}
 use mir.Val.{SFits, toZ, ofZ}
 use mir.Facts.{toZ-ofZ}
-use Rattle.amounts.proofs.Steps.{Known, lit, read, param, fits, kept, _plus_, _minus_, _times_}
-use Rattle.weighing.specs.Weighing.{suspended}
+use Rattle.amounts.proofs.Steps.{Known, read, param, fits, kept, _plus_, _minus_}
 use Rattle.weighing.proofs.types.Totals.is_above_after.Statement.{statement}
 use Rattle.weighing.proofs.types.Totals.is_above_after.Tie as tie
 

@@ -1,13 +1,11 @@
 -- `Totals::is_suspended`: twice the net owed of 256 records fits; the test is 01's, with no half to round.
 use borrow.Author.Needs.{needs}
-use mathlib.Core.Path.{_≡_, refl, sym, ap, _∙_}
-use mathlib.Core.Bool.{_&&_}
-use lib.IntN.{ℤ, pos, _+ℤ_, _-ℤ_, _*ℤ_}
-use lib.Signed.{ltZ, leZ}
+use lib.IntN.{ℤ, pos, _*ℤ_}
+use lib.Signed.{leZ}
 use mir.Syntax.{w64}
 use mir.Val.{SFits, toZ, ofZ}
 use mir.Facts.{toZ-ofZ}
-use Rattle.amounts.proofs.Steps.{Known, lit, read, param, fits, kept, _plus_, _minus_, _times_}
+use Rattle.amounts.proofs.Steps.{Known, lit, read, fits, kept, _times_}
 use Rattle.weighing.specs.Weighing.{suspended}
 use Rattle.weighing.proofs.types.Totals.is_suspended.Statement.{statement}
 use Rattle.weighing.proofs.types.Totals.is_suspended.Tie as tie

@@ -1,12 +1,9 @@
 -- `Totals::weigh_change`: by the change's case, the rows that concern it.
 use borrow.Author.Needs.{needs}
-use mathlib.Core.Path.{_≡_, refl, sym, ap, _∙_, subst}
-use mathlib.Core.Bool.{Bool, cond, _&&_}
-use Prim.Native.Nat.{ℕ}
+use mathlib.Core.Path.{ap, _∙_, subst}
+use mathlib.Core.Bool.{cond, _&&_}
 use lib.IntN.{ℤ, _+ℤ_, _-ℤ_}
 use lib.Signed.{ltZ}
-use mir.Syntax.{w64}
-use mir.Val.{SFits}
 use mir.Facts.{toZ-ofZ}
 use Rattle.amounts.specs.Amount.{Within}
 use Rattle.amounts.proofs.Steps.{range-kept}
@@ -15,7 +12,6 @@ use Rattle.refusals.specs.Refusals.{first}
 use Rattle.plans.specs.declared.types.Change.{Change}
 use Rattle.plans.specs.declared.types.Deed.the-variants.{On}
 use Rattle.weighing.specs.Bounds.{Light}
-use Rattle.weighing.specs.Weighing.{weighRows}
 use Rattle.weighing.proofs.types.Totals.weigh_change.Statement.{statement}
 use Rattle.weighing.proofs.types.Totals.weigh_change.Tie as tie
 

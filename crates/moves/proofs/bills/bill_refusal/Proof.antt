@@ -1,0 +1,49 @@
+-- `bill_refusal`: its table is the key's rows over the amount's over the stage's.
+use Rattle.amounts.proofs.Steps.{back}
+use Rattle.plans.proofs.Tables.{key-above, bill-above}
+use Rattle.moves.proofs.bills.bill_refusal.Statement.{statement}
+use Rattle.moves.proofs.bills.bill_refusal.Tie as tie
+
+billed-requires : tie.Need-billed-requires
+billed-requires c κs = tt
+
+refusal-requires : tie.Need-refusal-requires
+refusal-requires c κs = tt
+
+refusal-requires-2 : tie.Need-refusal-requires-2
+refusal-requires-2 c κs = tt
+
+stage-refusal-requires : tie.Need-stage-refusal-requires
+stage-refusal-requires c κs = tt
+
+or-else-requires : tie.Need-or-else-requires
+or-else-requires c κs = tt
+
+or-else-requires-2 : tie.Need-or-else-requires-2
+or-else-requires-2 c κs = tt
+
+returns : tie.Need-returns
+returns c =
+    rw (
+      key-above,
+      bill-above,
+      c .or-else2 .ensures,
+      c .before .or-else .ensures,
+      c .before .before .stage-refusal .ensures,
+      c .before .before .before .before .refusal2 .ensures,
+      c .before .before .before .before .before .refusal .ensures,
+      c .before .before .before .before .before .before .billed .ensures,
+      back (c .before .before .before .before .before .before .before .before .args .billing .cents) (c .before .before .before .before .before .before .before .struct-told .given .1 .0 .1),
+    )
+
+pub bill-refusal-spec : {M : Type 1} → statement M
+bill-refusal-spec =
+    tie.close
+    (tie.spec
+    billed-requires
+    refusal-requires
+    refusal-requires-2
+    stage-refusal-requires
+    or-else-requires
+    or-else-requires-2
+    returns)

@@ -1,0 +1,69 @@
+// What an open and a revise ask of the record under their key, or refusals 2 to 12. `old` is that record, blank where the key is not open.
+ghost use mathlib.Core.Path.{_≡_};
+ghost use Rattle.plans.specs.Plan.{opened, plan, planned};
+use bids::types::Bid;
+use plans::answer;
+use plans::stage_refusal;
+use plans::types::Change;
+use plans::types::Deed;
+use plans::types::Message;
+use plans::types::Opening;
+use plans::types::Planned;
+use records::types::Key;
+use records::types::Record;
+use refusals::or_else;
+use refusals::pick;
+
+// The record at stage 1.
+fn opened(opening: Opening, bid: Bid) -> Record
+    ensures { λ r. ⌜ r ≡ opened opening bid ⌝ }
+{
+    let key = opening.key;
+    Record {
+        key,
+        stage: Record::BID,
+        mwh: bid.mwh,
+        differential: opening.differential,
+        exempt: opening.exempt & (opening.key.kind == Key::IMPORT),
+        schedule: 0,
+        price: 0,
+        requirement: bid.cents,
+    }
+}
+
+pub fn open(opening: Opening, old: Record, mwh: &[u64], prices: &[i64]) -> Planned
+    ensures { λ r. ⌜ r ≡ planned (plan old (Message.Open opening) (now (mwh .entry)) (now (prices .entry))) ⌝ }
+{
+    let bid = bids::bid(
+        opening.key.kind,
+        mwh,
+        prices,
+        opening.differential,
+        opening.exempt,
+    );
+    let number = or_else(
+        opening.key.refusal(),
+        or_else(bid.refusal(), pick(!old.is_free(), 10, 0)),
+    );
+    answer(number, Deed::On(Change::Add(opened(opening, bid.bid()))))
+}
+
+pub fn revise(opening: Opening, old: Record, mwh: &[u64], prices: &[i64]) -> Planned
+    ensures { λ r. ⌜ r ≡ planned (plan old (Message.Revise opening) (now (mwh .entry)) (now (prices .entry))) ⌝ }
+{
+    let bid = bids::bid(
+        opening.key.kind,
+        mwh,
+        prices,
+        opening.differential,
+        opening.exempt,
+    );
+    let number = or_else(
+        opening.key.refusal(),
+        or_else(bid.refusal(), stage_refusal(old, old.stage == Record::BID)),
+    );
+    answer(
+        number,
+        Deed::On(Change::Redo(old.requirement, opened(opening, bid.bid()))),
+    )
+}
