@@ -17,10 +17,10 @@ use Rattle.records.specs.declared.types.Record.{Record}
 use Rattle.records.specs.Records.{blank, isFree, sameKey, at, isPath, isHour, keyFits, okPlace}
 use Rattle.records.proofs.Keys.{sameKey-eq, sameKey-refl, free-blank, at-blank, place-free, place-used}
 use Rattle.records.proofs.Clauses.{clauses}
-use Rattle.apart.specs.Apart.{standsIn, apart}
+use Rattle.distinct.specs.Numbers.{standsIn, allDistinct}
 use Rattle.book.specs.Places.{find, missing}
 use Rattle.book.specs.Books.{Book, distinct, sound}
-use Rattle.seen.specs.Codes.{codeOf}
+use Rattle.walk.specs.Codes.{codeOf}
 
 pub code-blank : codeOf blank ≡ 0
 unfolding codeOf isFree
@@ -102,14 +102,14 @@ missing-code r (s ∷ rs) k h =
     by false e ih = rw (← e) ih
 
 -- keys are distinct exactly where their numbers stand apart
-pub distinct-apart : (rs : List Record) → every okPlace rs ≡ true → distinct rs ≡ apart (map codeOf rs)
-unfolding distinct apart every
-distinct-apart [] h = refl
-distinct-apart (r ∷ rs) h =
+pub distinct-numbers : (rs : List Record) → every okPlace rs ≡ true → distinct rs ≡ allDistinct (map codeOf rs)
+unfolding distinct allDistinct every
+distinct-numbers [] h = refl
+distinct-numbers (r ∷ rs) h =
     let here = and-left (okPlace r) (every okPlace rs) h in
     let rest = and-right (okPlace r) (every okPlace rs) h in
-    ap (λ (b : Bool). (isFree r || missing (find (at (r .key)) rs)) && b) (distinct-apart rs rest)
-    ∙ ap (λ (b : Bool). b && apart (map codeOf rs)) (⊎-elim (λ e. free e) (λ k. used k rest) (free-or r here))
+    ap (λ (b : Bool). (isFree r || missing (find (at (r .key)) rs)) && b) (distinct-numbers rs rest)
+    ∙ ap (λ (b : Bool). b && allDistinct (map codeOf rs)) (⊎-elim (λ e. free e) (λ k. used k rest) (free-or r here))
   where
     free : r ≡ blank → (isFree r || missing (find (at (r .key)) rs)) ≡ (eqb (codeOf r) 0 || not (standsIn (codeOf r) (map codeOf rs)))
     free e = rw (ap codeOf e ∙ code-blank, ap isFree e ∙ free-blank)
@@ -128,9 +128,9 @@ and-middle false b c e = refl
 
 -- a book is sound by the test of its places, that of its support, and that of its keys' numbers, which are looked at whatever the places hold
 pub sound-by : (b : Book) (ranged : Bool) (codes : List ℕ) → ranged ≡ every okPlace (b .records) → codes ≡ map codeOf (b .records)
-    → (ranged && isSupport (b .support) && apart codes) ≡ sound b
+    → (ranged && isSupport (b .support) && allDistinct codes) ≡ sound b
 unfolding sound
 sound-by b true codes e f =
-    ap (λ (x : Bool). isSupport (b .support) && x) (ap apart f ∙ sym (distinct-apart (b .records) (sym e)))
+    ap (λ (x : Bool). isSupport (b .support) && x) (ap allDistinct f ∙ sym (distinct-numbers (b .records) (sym e)))
     ∙ sym (and-middle (isSupport (b .support)) (every okPlace (b .records)) (distinct (b .records)) (sym e))
 sound-by b false codes e f = sym (and-none (isSupport (b .support)) (every okPlace (b .records)) (distinct (b .records)) (sym e))

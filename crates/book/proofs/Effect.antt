@@ -14,7 +14,7 @@ use Rattle.records.specs.declared.types.Key.{Key}
 use Rattle.records.specs.declared.types.Record.{Record}
 use Rattle.records.specs.Records.{blank, sameKey, isFree, at, okPlace}
 use Rattle.records.proofs.Keys.{at-blank, at-key, at-used, at-own, free-at, at-apart, place-free, ok-place, ok-blank}
-use Rattle.plans.proofs.Fits.{Fine}
+use Rattle.messages.proofs.Fits.{Fine}
 use Rattle.book.specs.Places.{find, swap, missing}
 use Rattle.book.specs.Books.{distinct}
 use Rattle.book.proofs.Places.{find-passes, find-count, count-find, find-other, find-new, find-same, swap-total, swap-count, swap-length, every-swap, every-find}

@@ -12,16 +12,16 @@ use Rattle.refusals.specs.Refusals.{None}
 use Rattle.refusals.proofs.Laws.{and-left, and-right, and-both, never}
 use Rattle.records.specs.declared.types.Key.{Key}
 use Rattle.records.specs.declared.types.Record.{Record}
-use Rattle.plans.specs.declared.types.Message.{Message}
-use Rattle.plans.specs.declared.types.Change.{Change}
-use Rattle.plans.specs.declared.types.Change.the-variants.{Add, Redo, Move, Drop}
-use Rattle.plans.specs.declared.types.Deed.{Deed}
-use Rattle.plans.specs.declared.types.Deed.the-variants.{On, Refund}
+use Rattle.messages.specs.declared.types.Message.{Message}
+use Rattle.messages.specs.declared.types.Change.{Change}
+use Rattle.messages.specs.declared.types.Change.the-variants.{Add, Rebid, Advance, Remove}
+use Rattle.messages.specs.declared.types.Deed.{Deed}
+use Rattle.messages.specs.declared.types.Deed.the-variants.{Keyed, SetSupport}
 use Rattle.records.specs.Records.{blank, isFree, at, okPlace}
-use Rattle.plans.specs.Plan.{keyOf}
+use Rattle.messages.specs.Plan.{keyOf}
 use Rattle.records.proofs.Keys.{at-key, at-used, free-blank, place-used}
-use Rattle.plans.proofs.Fits.{Under, Fits}
-use Rattle.weighing.specs.Weighing.{weighRows}
+use Rattle.messages.proofs.Fits.{Under, Fits}
+use Rattle.credit.specs.Credit.{creditRows}
 use Rattle.book.specs.Places.{find, swap, missing, orElseBlank}
 use Rattle.book.specs.Books.{Book, lookup, sound, distinct, full, totals}
 use Rattle.book.specs.Step.{change, rebook, done}
@@ -83,33 +83,33 @@ lookup-some b k h = some-by (find (at k) (b .records)) h
 -- what stands under the key afterwards
 abbrev pub leaves : Change → Option Record
 leaves (Add r) = some r
-leaves (Redo was r) = some r
-leaves (Move r) = some r
-leaves (Drop k) = none
+leaves (Rebid was r) = some r
+leaves (Advance r) = some r
+leaves (Remove k) = none
 
-room : (b : Book) (r : Record) → None (weighRows (totals b) (On (Add r))) → missing (find isFree (b .records)) ≡ false
+room : (b : Book) (r : Record) → None (creditRows (totals b) (Keyed (Add r))) → missing (find isFree (b .records)) ≡ false
 unfolding None totals full
 room b r h = h .1 .0
 
 -- the places of a sound book, after a change that fits and is not turned away
-pub effect : (b : Book) (m : Message) (c : Change) → sound b ≡ true → Fits (lookup b (keyOf m)) m (On c) → None (weighRows (totals b) (On c))
+pub effect : (b : Book) (m : Message) (c : Change) → sound b ≡ true → Fits (lookup b (keyOf m)) m (Keyed c) → None (creditRows (totals b) (Keyed c))
     → Effect (keyOf m) (b .records) (change c (b .records)) (leaves c)
 unfolding change
 effect b m (Add r) h f w =
     effect-add (keyOf m) (b .records) (sound-places b h) (sound-distinct b h) r (lookup-none b (keyOf m) (f .free)) (room b r w) (f .fine)
-effect b m (Redo was r) h f w =
+effect b m (Rebid was r) h f w =
     subst (λ (k : Key). Effect (keyOf m) (b .records) (swap (at k) r (b .records)) (some r)) (sym (f .fine .own))
     (effect-put (keyOf m) (b .records) (sound-places b h) (sound-distinct b h) (lookup b (keyOf m)) r (lookup-some b (keyOf m) (f .used)) (f .fine))
-effect b m (Move r) h f w =
+effect b m (Advance r) h f w =
     subst (λ (k : Key). Effect (keyOf m) (b .records) (swap (at k) r (b .records)) (some r)) (sym (f .fine .own))
     (effect-put (keyOf m) (b .records) (sound-places b h) (sound-distinct b h) (lookup b (keyOf m)) r (lookup-some b (keyOf m) (f .used)) (f .fine))
-effect b m (Drop k) h f w =
+effect b m (Remove k) h f w =
     subst (λ (l : Key). Effect (keyOf m) (b .records) (swap (at l) blank (b .records)) none) (sym (f .own))
     (effect-drop (keyOf m) (b .records) (sound-places b h) (sound-distinct b h) (lookup b (keyOf m)) (lookup-some b (keyOf m) (f .used)))
 
-pub done-sound : (b : Book) (m : Message) (d : Deed) → sound b ≡ true → Fits (lookup b (keyOf m)) m d → None (weighRows (totals b) d) → sound (done b d) ≡ true
+pub done-sound : (b : Book) (m : Message) (d : Deed) → sound b ≡ true → Fits (lookup b (keyOf m)) m d → None (creditRows (totals b) d) → sound (done b d) ≡ true
 unfolding done
-done-sound b m (On c) h f w =
+done-sound b m (Keyed c) h f w =
     let e = effect b m c h f w in
     sound-make b (b .support) (change c (b .records)) (sound-support b h) (e .fine) (e .apart)
-done-sound b m (Refund z) h f w = sound-make b z (b .records) f (sound-places b h) (sound-distinct b h)
+done-sound b m (SetSupport z) h f w = sound-make b z (b .records) f (sound-places b h) (sound-distinct b h)

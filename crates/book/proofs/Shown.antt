@@ -9,13 +9,13 @@ use lib.IntN.{negsuc, pos, _*ℤ_}
 use lib.ListN.{length}
 use lib.Signed.{leZ}
 use Rattle.refusals.specs.Refusals.{first, Verdict, refuse, judge, answered}
-use Rattle.plans.specs.declared.types.Deed.{Deed}
-use Rattle.plans.specs.declared.types.Message.{Message}
-use Rattle.plans.specs.declared.types.Message.the-variants.{Support}
-use Rattle.plans.specs.Plan.{keyOf, plan}
-use Rattle.weighing.specs.declared.types.Totals.{Totals}
-use Rattle.weighing.specs.Bounds.{Small}
-use Rattle.weighing.specs.Weighing.{suspended, pass}
+use Rattle.messages.specs.declared.types.Deed.{Deed}
+use Rattle.messages.specs.declared.types.Message.{Message}
+use Rattle.messages.specs.declared.types.Message.the-variants.{Support}
+use Rattle.messages.specs.Plan.{keyOf, plan}
+use Rattle.credit.specs.declared.types.Totals.{Totals}
+use Rattle.credit.specs.Bounds.{TotalsBounded}
+use Rattle.credit.specs.Credit.{suspended, pass}
 use Rattle.book.specs.Books.{Book, lookup, sound, held, owed, totals, heldShown, owedShown, suspendedShown}
 use Rattle.endings.specs.declared.types.Answer.the-variants.{Refused}
 use Rattle.book.specs.Step.{concluded, outcome, step}
@@ -59,10 +59,10 @@ module _ (b : Book) where
       by true h = refl
       by false h = refl
 
-  pub small-shown : length (b .records) ≡ 256 → Small shown
+  pub small-shown : length (b .records) ≡ 256 → TotalsBounded shown
   unfolding heldShown owedShown totals
   small-shown few = by (sound b) refl
     where
-      by : (t : Bool) → sound b ≡ t → Small (record { support = b .support; held = cond t (held b) (pos 0); owed = cond t (owed b) (pos 0); full = false })
+      by : (t : Bool) → sound b ≡ t → TotalsBounded (record { support = b .support; held = cond t (held b) (pos 0); owed = cond t (owed b) (pos 0); full = false })
       by true h = let s = totals-small b h few in record { held = s .held; owed = s .owed }
       by false h = record { held = omega arith; owed = omega arith }

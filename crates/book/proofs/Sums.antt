@@ -16,8 +16,8 @@ use Rattle.refusals.proofs.Laws.{and-left, and-right}
 use Rattle.records.specs.declared.types.Record.{Record}
 use Rattle.records.specs.Records.{blank, okPlace}
 use Rattle.records.proofs.Keys.{ok-blank}
-use Rattle.weighing.specs.Weights.{weight}
-use Rattle.weighing.proofs.Arms.{weight-bounded}
+use Rattle.credit.specs.Weights.{weight}
+use Rattle.credit.proofs.Arms.{weight-bounded}
 use Rattle.amounts.proofs.Walks.{drop-back}
 
 -- every place of the list, and past its end the blank one, passes

@@ -10,13 +10,13 @@ use lib.IntN.{ℤ}
 use borrow.Author.Tests.{eqb-false}
 use Rattle.refusals.specs.Refusals.{Row, first, Verdict, refuse, accept, judge, answered, orElse}
 use Rattle.refusals.proofs.Laws.{first-append, answered-some}
-use Rattle.plans.specs.declared.types.Message.{Message}
-use Rattle.plans.specs.declared.types.Deed.{Deed}
-use Rattle.plans.specs.Plan.{keyOf, planRows, plan}
-use Rattle.plans.proofs.Fits.{plan-rows-numbered}
-use Rattle.weighing.specs.Weighing.{weighRows, weigh, pass}
+use Rattle.messages.specs.declared.types.Message.{Message}
+use Rattle.messages.specs.declared.types.Deed.{Deed}
+use Rattle.messages.specs.Plan.{keyOf, planRows, plan}
+use Rattle.messages.proofs.Fits.{plan-rows-numbered}
+use Rattle.credit.specs.Credit.{creditRows, creditVerdict, pass}
 use Rattle.book.specs.Books.{Book, lookup, sound, totals}
-use Rattle.book.specs.Step.{askedOf, table, verdict, concluded}
+use Rattle.book.specs.Step.{deedOf, table, verdict, concluded}
 
 -- two tables, one below the other: the lower is asked only where the upper has passed
 module _ {X : Type 0} (x : X) where
@@ -30,13 +30,13 @@ module _ (b : Book) (m : Message) (ms : List ℕ) (ps : List ℤ) where
   rows = planRows (lookup b (keyOf m)) m ms ps
 
   abbrev deed : Deed
-  deed = askedOf b m ms ps
+  deed = deedOf b m ms ps
 
-  verdict-by : (s : Bool) → sound b ≡ s → answered (cond (not s) 1 (first (rows ++ weighRows (totals b) deed))) deed ≡ cond s (pass (totals b) (plan (lookup b (keyOf m)) m ms ps)) (refuse 1)
-  unfolding plan judge answered askedOf pass weigh orElse
+  verdict-by : (s : Bool) → sound b ≡ s → answered (cond (not s) 1 (first (rows ++ creditRows (totals b) deed))) deed ≡ cond s (pass (totals b) (plan (lookup b (keyOf m)) m ms ps)) (refuse 1)
+  unfolding plan judge answered deedOf pass creditVerdict orElse
   verdict-by true e =
-      ap (λ (n : ℕ). answered n deed) (first-append rows (weighRows (totals b) deed) (plan-rows-numbered (lookup b (keyOf m)) m ms ps))
-      ∙ two-by deed (first rows) (first (weighRows (totals b) deed)) (eqb (first rows) 0) refl (weigh (totals b)) refl (pass (totals b)) (λ k. refl) (λ y. refl)
+      ap (λ (n : ℕ). answered n deed) (first-append rows (creditRows (totals b) deed) (plan-rows-numbered (lookup b (keyOf m)) m ms ps))
+      ∙ two-by deed (first rows) (first (creditRows (totals b) deed)) (eqb (first rows) 0) refl (creditVerdict (totals b)) refl (pass (totals b)) (λ k. refl) (λ y. refl)
   verdict-by false e = answered-some 1 deed (λ z. omega arith)
 
   -- refusals 2 to 13 see the message and the record under its key; 14 to 16 see the totals

@@ -16,28 +16,28 @@ use Rattle.refusals.proofs.Laws.{never}
 use Rattle.records.specs.declared.types.Key.{Key}
 use Rattle.records.specs.declared.types.Record.{Record}
 use Rattle.records.specs.Records.{blank, isFree, at, okPlace}
-use Rattle.weighing.specs.Weights.{owes, weight}
+use Rattle.credit.specs.Weights.{owes, weight}
 use Rattle.book.specs.Places.{index}
 use Rattle.book.specs.Books.{Book, lookup, held, owed, full, totals}
-use Rattle.seen.specs.Codes.{codeOf}
-use Rattle.seen.specs.declared.types.Seen.{Seen}
-use Rattle.seen.specs.Seen.{nothing, lost, more, Light}
+use Rattle.walk.specs.Codes.{codeOf}
+use Rattle.walk.specs.declared.types.Walk.{Walk}
+use Rattle.walk.specs.Walk.{nothing, lost, more, SumsBounded}
 use Rattle.book.proofs.Passed.{every-back, index-back, missing-index, find-get, set-back, mapped}
 use Rattle.book.proofs.Sums.{total-bounded, total-back}
 use Rattle.book.proofs.Codes.{code-blank}
 
 -- of places in range: the two sums, the lowest free place and the key's
-pub record Passed (key : Key) (rs : List Record) (s : Seen) (i : ℕ) : Type 0 where
+pub record Passed (key : Key) (rs : List Record) (s : Walk) (i : ℕ) : Type 0 where
   pub held : s .held ≡ total (weight false) (drop i rs)
   pub owed : s .owed ≡ total (weight true) (drop i rs)
   pub free : s .free ≡ i + index isFree (drop i rs)
   pub place : s .at ≡ i + index (at key) (drop i rs)
 
-pub record Walked (key : Key) (rs : List Record) (codes : List ℕ) (s : Seen) (i : ℕ) : Type 0 where
+pub record Walked (key : Key) (rs : List Record) (codes : List ℕ) (s : Walk) (i : ℕ) : Type 0 where
   pub count : length codes ≡ 256
   pub within : i ≤ 256
   pub ranged : s .ranged ≡ every okPlace (drop i rs)
-  pub light : Light s
+  pub light : SumsBounded s
   pub coded : (k : ℕ) → i ≤ k → k < length codes → getD codes k 0 ≡ codeOf (getD rs k blank)
   pub passed : s .ranged ≡ true → Passed key rs s i
 
@@ -65,7 +65,7 @@ begun key rs codes few count =
     }
 
 -- one place more
-module _ (key : Key) (rs : List Record) (codes : List ℕ) (s : Seen) (i n : ℕ) (few : length rs ≡ 256) (h : 0 < i) (w : Walked key rs codes s i) (coded : n ≡ codeOf (getD rs (i - 1) blank)) where
+module _ (key : Key) (rs : List Record) (codes : List ℕ) (s : Walk) (i n : ℕ) (few : length rs ≡ 256) (h : 0 < i) (w : Walked key rs codes s i) (coded : n ≡ codeOf (getD rs (i - 1) blank)) where
   abbrev here : Record
   here = getD rs (i - 1) blank
 
@@ -136,7 +136,7 @@ module _ (key : Key) (rs : List Record) (codes : List ℕ) (s : Seen) (i n : ℕ
       by false false e bad = out-of-range (all-of ∙ rw bad)
 
 -- every place is passed
-module _ (b : Book) (key : Key) (codes : List ℕ) (s : Seen) (few : length (b .records) ≡ 256) (w : Walked key (b .records) codes s 0) where
+module _ (b : Book) (key : Key) (codes : List ℕ) (s : Walk) (few : length (b .records) ≡ 256) (w : Walked key (b .records) codes s 0) where
   pub all-ranged : s .ranged ≡ every okPlace (b .records)
   all-ranged = w .ranged
 

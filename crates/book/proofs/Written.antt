@@ -14,31 +14,31 @@ use Rattle.amounts.specs.Amount.{Within}
 use Rattle.amounts.proofs.Signed.{signed, sum-of, difference-of}
 use Rattle.refusals.specs.Refusals.{None, Verdict, refuse, accept}
 use Rattle.refusals.proofs.Laws.{judge-accept}
-use Rattle.plans.specs.declared.types.Message.{Message}
-use Rattle.plans.specs.declared.types.Change.{Change}
-use Rattle.plans.specs.declared.types.Change.the-variants.{Add, Redo, Move, Drop}
-use Rattle.plans.specs.declared.types.Deed.{Deed}
-use Rattle.plans.specs.declared.types.Deed.the-variants.{On, Refund}
-use Rattle.plans.specs.declared.types.Planned.{Planned}
-use Rattle.plans.specs.declared.types.Planned.the-variants.{Refused as Turned, Asks}
+use Rattle.messages.specs.declared.types.Message.{Message}
+use Rattle.messages.specs.declared.types.Change.{Change}
+use Rattle.messages.specs.declared.types.Change.the-variants.{Add, Rebid, Advance, Remove}
+use Rattle.messages.specs.declared.types.Deed.{Deed}
+use Rattle.messages.specs.declared.types.Deed.the-variants.{Keyed, SetSupport}
+use Rattle.messages.specs.declared.types.Planned.{Planned}
+use Rattle.messages.specs.declared.types.Planned.the-variants.{Refused as Turned, Asks}
 use Rattle.records.specs.declared.types.Key.{Key}
 use Rattle.records.specs.declared.types.Record.{Record}
 use Rattle.records.specs.Records.{blank, isFree, at, okPlace}
 use Rattle.records.proofs.Keys.{ok-place, ok-blank}
 use Rattle.records.proofs.Bounds.{requirement-bounded}
-use Rattle.plans.specs.Plan.{keyOf, plan, planned}
-use Rattle.plans.proofs.Fits.{Fits, fits}
-use Rattle.weighing.specs.Weights.{owes}
-use Rattle.weighing.specs.Weighing.{weighRows, weigh, answeredBy, pass}
-use Rattle.weighing.specs.Bounds.{Small}
-use Rattle.weighing.proofs.Rows.{weigh-rows-numbered}
+use Rattle.messages.specs.Plan.{keyOf, plan, planned}
+use Rattle.messages.proofs.Fits.{Fits, fits}
+use Rattle.credit.specs.Weights.{owes}
+use Rattle.credit.specs.Credit.{creditRows, creditVerdict, answeredBy, pass}
+use Rattle.credit.specs.Bounds.{TotalsBounded}
+use Rattle.credit.proofs.Rows.{credit-rows-numbered}
 use Rattle.book.specs.Places.{swap, index}
 use Rattle.book.specs.Books.{Book, lookup, sound, held, owed, totals, heldShown, owedShown}
 use Rattle.endings.specs.declared.types.Answer.the-variants.{Accepted, Refused}
 use Rattle.book.specs.Step.{Outcome, concluded, change, done, outcome, step}
-use Rattle.endings.specs.declared.types.Sight.{Sight}
+use Rattle.endings.specs.declared.types.View.{View}
 use Rattle.endings.specs.declared.types.Ending.{Ending}
-use Rattle.endings.specs.Endings.{Fair, Ready, Apt, asVerdict, unsound, turnedAway, putIn, carriedOut, endingOf, ended}
+use Rattle.endings.specs.Endings.{DeedSound, Ready, Apt, asVerdict, unsound, turnedAway, putIn, carriedOut, endingOf, ended}
 use Rattle.book.proofs.Passed.{swap-set}
 use Rattle.book.proofs.Sums.{total-bounded}
 use Rattle.book.proofs.Effect.{weight}
@@ -46,13 +46,13 @@ use Rattle.book.proofs.Kept.{sound-places, lookup-under, lookup-none, l
 use Rattle.book.proofs.Verdicts.{verdict-is}
 
 -- a sound book's totals are sums of 256 requirements in range
-pub totals-small : (b : Book) → sound b ≡ true → length (b .records) ≡ 256 → Small (totals b)
+pub totals-small : (b : Book) → sound b ≡ true → length (b .records) ≡ 256 → TotalsBounded (totals b)
 unfolding totals held owed
 totals-small b h e =
     record { held = total-bounded false (b .records) (sound-places b h) (omega (arith, e)); owed = total-bounded true (b .records) (sound-places b h) (omega (arith, e)) }
 
 -- what a message sees of a sound book
-pub record Sees (b : Book) (k : Key) (s : Sight) : Type 0 where
+pub record Sees (b : Book) (k : Key) (s : View) : Type 0 where
   pub sums : s .totals ≡ totals b
   pub lowest : s .free ≡ index isFree (b .records)
   pub place : s .at ≡ index (at k) (b .records)
@@ -69,7 +69,7 @@ as-planned (accept d) = refl
 moved-over : (x y a c : ℤ) → y +ℤ a ≡ x +ℤ c → (x -ℤ a) +ℤ c ≡ y
 moved-over x y a c e = omega (arith, signed, sum-of (x -ℤ a) c, difference-of x a, sum-of y a, sum-of x c)
 
-module _ (b : Book) (m : Message) (ms : List ℕ) (ps : List ℤ) (s : Sight) (few : length (b .records) ≡ 256) (support-so : s .totals .support ≡ b .support)
+module _ (b : Book) (m : Message) (ms : List ℕ) (ps : List ℤ) (s : View) (few : length (b .records) ≡ 256) (support-so : s .totals .support ≡ b .support)
     (sound-so : s .sound ≡ sound b) (sees : sound b ≡ true → Sees b (keyOf m) s)
     (p : Planned) (planned-so : sound b ≡ true → p ≡ planned (plan (lookup b (keyOf m)) m ms ps)) where
   abbrev rs : List Record
@@ -87,60 +87,60 @@ module _ (b : Book) (m : Message) (ms : List ℕ) (ps : List ℤ) (s : Sight) (f
   ends-unsound h v = rw h (rw h (λ i. record { book = record { records = untouched i; support = support-so i }; answer = Refused 1 (pos 0) (pos 0) }))
 
   module _ (h : sound b ≡ true) where
-    abbrev seen : Sees b (keyOf m) s
-    seen = sees h
+    abbrev walk : Sees b (keyOf m) s
+    walk = sees h
 
     ends-refused : (n : ℕ) → written b (turnedAway s n) ≡ outcome b (refuse n)
     unfolding outcome heldShown owedShown turnedAway totals
     ends-refused n =
-        rw h (λ i. record { book = record { records = untouched i; support = support-so i }; answer = Refused n (seen .sums i .held) (seen .sums i .owed) })
+        rw h (λ i. record { book = record { records = untouched i; support = support-so i }; answer = Refused n (walk .sums i .held) (walk .sums i .owed) })
 
     -- ---- the next book and its sums
-    module _ (q : Record → Bool) (place : ℕ) (was new : Record) (c : Change) (found : place ≡ index q rs) (changed : swap q new rs ≡ change c rs) (answers : new .requirement ≡ answeredBy (On c))
+    module _ (q : Record → Bool) (place : ℕ) (was new : Record) (c : Change) (found : place ≡ index q rs) (changed : swap q new rs ≡ change c rs) (answers : new .requirement ≡ answeredBy (Keyed c))
         (sums : (f : Record → ℤ) → f blank ≡ pos 0 → total f (change c rs) +ℤ f was ≡ total f rs +ℤ f new) where
       after : (f : Record → ℤ) → f blank ≡ pos 0 → (x : ℤ) → x ≡ total f rs → ((x -ℤ f was) +ℤ f new) ≡ total f (change c rs)
       after f z x e = ap (λ (y : ℤ). (y -ℤ f was) +ℤ f new) e ∙ moved-over (total f rs) (total f (change c rs)) (f was) (f new) (sums f z)
 
-      ends-put : written b (putIn s place was new) ≡ outcome b (accept (On c))
+      ends-put : written b (putIn s place was new) ≡ outcome b (accept (Keyed c))
       unfolding outcome done putIn held owed totals owes
       ends-put = λ i. record {
         book = record { records = (ap (λ (n : ℕ). set rs n new) found ∙ sym (swap-set q new rs) ∙ changed) i; support = support-so i };
-        answer = Accepted (answers i) (after (λ r. r .requirement) refl (s .totals .held) (λ j. seen .sums j .held) i) (after owes refl (s .totals .owed) (λ j. seen .sums j .owed) i);
+        answer = Accepted (answers i) (after (λ r. r .requirement) refl (s .totals .held) (λ j. walk .sums j .held) i) (after owes refl (s .totals .owed) (λ j. walk .sums j .owed) i);
       }
 
-    ends-changed : (c : Change) → Fits old m (On c) → None (weighRows (totals b) (On c)) → written b (carriedOut s (On c)) ≡ outcome b (accept (On c))
+    ends-changed : (c : Change) → Fits old m (Keyed c) → None (creditRows (totals b) (Keyed c)) → written b (carriedOut s (Keyed c)) ≡ outcome b (accept (Keyed c))
     unfolding change
     ends-changed (Add r) f w =
-        ends-put isFree (s .free) blank r (Add r) (seen .lowest) refl refl
+        ends-put isFree (s .free) blank r (Add r) (walk .lowest) refl refl
         (λ g z. ap (λ (x : ℤ). total g (swap isFree r rs) +ℤ x) (z ∙ ap (weight g) (sym (lookup-none b (keyOf m) (f .free)))) ∙ effect b m (Add r) h f w .sums g z)
-    ends-changed (Redo was r) f w =
-        ends-put (at (keyOf m)) (s .at) (s .old) r (Redo was r) (seen .place) (ap (λ (k : Key). swap (at k) r rs) (sym (f .fine .own))) refl
-        (λ g z. ap (λ (x : ℤ). total g (swap (at (r .key)) r rs) +ℤ x) (ap g (seen .under) ∙ ap (weight g) (sym (lookup-some b (keyOf m) (f .used)))) ∙ effect b m (Redo was r) h f w .sums g z)
-    ends-changed (Move r) f w =
-        ends-put (at (keyOf m)) (s .at) (s .old) r (Move r) (seen .place) (ap (λ (k : Key). swap (at k) r rs) (sym (f .fine .own))) refl
-        (λ g z. ap (λ (x : ℤ). total g (swap (at (r .key)) r rs) +ℤ x) (ap g (seen .under) ∙ ap (weight g) (sym (lookup-some b (keyOf m) (f .used)))) ∙ effect b m (Move r) h f w .sums g z)
-    ends-changed (Drop k) f w =
-        ends-put (at (keyOf m)) (s .at) (s .old) blank (Drop k) (seen .place) (ap (λ (k : Key). swap (at k) blank rs) (sym (f .own))) refl
-        (λ g z. ap (λ (x : ℤ). total g (swap (at k) blank rs) +ℤ x) (ap g (seen .under) ∙ ap (weight g) (sym (lookup-some b (keyOf m) (f .used)))) ∙ effect b m (Drop k) h f w .sums g z ∙ ap (λ (x : ℤ). total g rs +ℤ x) (sym z))
+    ends-changed (Rebid was r) f w =
+        ends-put (at (keyOf m)) (s .at) (s .old) r (Rebid was r) (walk .place) (ap (λ (k : Key). swap (at k) r rs) (sym (f .fine .own))) refl
+        (λ g z. ap (λ (x : ℤ). total g (swap (at (r .key)) r rs) +ℤ x) (ap g (walk .under) ∙ ap (weight g) (sym (lookup-some b (keyOf m) (f .used)))) ∙ effect b m (Rebid was r) h f w .sums g z)
+    ends-changed (Advance r) f w =
+        ends-put (at (keyOf m)) (s .at) (s .old) r (Advance r) (walk .place) (ap (λ (k : Key). swap (at k) r rs) (sym (f .fine .own))) refl
+        (λ g z. ap (λ (x : ℤ). total g (swap (at (r .key)) r rs) +ℤ x) (ap g (walk .under) ∙ ap (weight g) (sym (lookup-some b (keyOf m) (f .used)))) ∙ effect b m (Advance r) h f w .sums g z)
+    ends-changed (Remove k) f w =
+        ends-put (at (keyOf m)) (s .at) (s .old) blank (Remove k) (walk .place) (ap (λ (k : Key). swap (at k) blank rs) (sym (f .own))) refl
+        (λ g z. ap (λ (x : ℤ). total g (swap (at k) blank rs) +ℤ x) (ap g (walk .under) ∙ ap (weight g) (sym (lookup-some b (keyOf m) (f .used)))) ∙ effect b m (Remove k) h f w .sums g z ∙ ap (λ (x : ℤ). total g rs +ℤ x) (sym z))
 
-    ends-carried : (d : Deed) → Fits old m d → None (weighRows (totals b) d) → written b (carriedOut s d) ≡ outcome b (accept d)
+    ends-carried : (d : Deed) → Fits old m d → None (creditRows (totals b) d) → written b (carriedOut s d) ≡ outcome b (accept d)
     unfolding outcome done held owed totals
-    ends-carried (On c) f w = ends-changed c f w
-    ends-carried (Refund z) f w =
-        λ i. record { book = record { records = untouched i; support = z }; answer = Accepted (pos 0) (seen .sums i .held) (seen .sums i .owed) }
+    ends-carried (Keyed c) f w = ends-changed c f w
+    ends-carried (SetSupport z) f w =
+        λ i. record { book = record { records = untouched i; support = z }; answer = Accepted (pos 0) (walk .sums i .held) (walk .sums i .owed) }
 
     -- ---- by the plan, and then by 14 to 16
-    ends-weighed : (d : Deed) → Fits old m d → (v : Verdict Deed) → weigh (totals b) d ≡ v → written b (endingOf s v) ≡ outcome b v
-    unfolding endingOf weigh
+    ends-weighed : (d : Deed) → Fits old m d → (v : Verdict Deed) → creditVerdict (totals b) d ≡ v → written b (endingOf s v) ≡ outcome b v
+    unfolding endingOf creditVerdict
     ends-weighed d f (refuse n) e = ends-refused n
     ends-weighed d f (accept d′) e =
-        let passed = judge-accept (weighRows (totals b) d) d d′ (weigh-rows-numbered (totals b) d) e in
+        let passed = judge-accept (creditRows (totals b) d) d d′ (credit-rows-numbered (totals b) d) e in
         subst (λ (x : Deed). written b (carriedOut s x) ≡ outcome b (accept x)) (passed .1) (ends-carried d f (passed .0))
 
     ends-passed : (v : Verdict Deed) → plan old m ms ps ≡ v → written b (endingOf s (pass (totals b) v)) ≡ outcome b (pass (totals b) v)
     unfolding endingOf pass
     ends-passed (refuse n) e = ends-refused n
-    ends-passed (accept d) e = ends-weighed d (fits old m ms ps d (lookup-under b (keyOf m) h) e) (weigh (totals b) d) refl
+    ends-passed (accept d) e = ends-weighed d (fits old m ms ps d (lookup-under b (keyOf m) h) e) (creditVerdict (totals b) d) refl
 
     planned-is : asVerdict p ≡ plan old m ms ps
     planned-is = ap asVerdict (planned-so h) ∙ as-planned (plan old m ms ps)
@@ -149,7 +149,7 @@ module _ (b : Book) (m : Message) (ms : List ℕ) (ps : List ℤ) (s : Sight) (f
     unfolding ended concluded
     ends-sound =
         ap (λ (t : Bool). written b (cond t (endingOf s (pass (s .totals) (asVerdict p))) (unsound s))) (sound-so ∙ h)
-        ∙ (λ i. written b (endingOf s (pass (seen .sums i) (planned-is i))))
+        ∙ (λ i. written b (endingOf s (pass (walk .sums i) (planned-is i))))
         ∙ ends-passed (plan old m ms ps) refl
         ∙ ap (λ (t : Bool). outcome b (cond t (pass (totals b) (plan old m ms ps)) (refuse 1))) (sym h)
 
@@ -157,18 +157,18 @@ module _ (b : Book) (m : Message) (ms : List ℕ) (ps : List ℤ) (s : Sight) (f
     old-fine : okPlace old ≡ true
     old-fine = ⊎-elim (λ e. ap okPlace e ∙ ok-blank) (λ r. ok-place old (r .0)) (lookup-under b (keyOf m) h)
 
-    fair : (d : Deed) → Fits old m d → Fair d
-    fair (On (Add r)) f = ok-place r (f .fine .ok)
-    fair (On (Redo was r)) f = (subst (Within 1300000000000) (sym (f .was)) (requirement-bounded old old-fine), ok-place r (f .fine .ok))
-    fair (On (Move r)) f = ok-place r (f .fine .ok)
-    fair (On (Drop k)) f = tt
-    fair (Refund z) f = tt
+    fair : (d : Deed) → Fits old m d → DeedSound d
+    fair (Keyed (Add r)) f = ok-place r (f .fine .ok)
+    fair (Keyed (Rebid was r)) f = (subst (Within 1300000000000) (sym (f .was)) (requirement-bounded old old-fine), ok-place r (f .fine .ok))
+    fair (Keyed (Advance r)) f = ok-place r (f .fine .ok)
+    fair (Keyed (Remove k)) f = tt
+    fair (SetSupport z) f = tt
 
     ready : (d : Deed) → plan old m ms ps ≡ accept d → Ready s d
     ready d e =
         record {
-          small = subst Small (sym (seen .sums)) (totals-small b h few);
-          old = ap okPlace (seen .under) ∙ old-fine;
+          small = subst TotalsBounded (sym (walk .sums)) (totals-small b h few);
+          old = ap okPlace (walk .under) ∙ old-fine;
           fair = fair d (fits old m ms ps d (lookup-under b (keyOf m) h) e);
         }
 

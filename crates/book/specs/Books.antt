@@ -9,9 +9,9 @@ use Rattle.amounts.specs.Lists.{total, every}
 use Rattle.records.specs.declared.types.Key.{Key}
 use Rattle.records.specs.declared.types.Record.{Record}
 use Rattle.records.specs.Records.{blank, isFree, at, okPlace}
-use Rattle.weighing.specs.Weights.{owes}
-use Rattle.weighing.specs.declared.types.Totals.{Totals}
-use Rattle.weighing.specs.Weighing.{suspended}
+use Rattle.credit.specs.Weights.{owes}
+use Rattle.credit.specs.declared.types.Totals.{Totals}
+use Rattle.credit.specs.Credit.{suspended}
 use Rattle.book.specs.Places.{find, missing, orElseBlank}
 pub use Rattle.book.specs.declared.types.Book.{Book}
 

@@ -1,5 +1,5 @@
 -- Document 01, 'Messages and stages' and 'Turned away, and why': what a message answers, and the next book.
--- A message's refusals 2 to 13 and what it asks for stand in crate `plans`, specs/Plan.antt; refusals 14 to 16 in crate `weighing`, specs/Weighing.antt.
+-- A message's refusals 2 to 13 and what it asks for stand in crate `plans`, specs/Plan.antt; refusals 14 to 16 in crate `weighing`, specs/Credit.antt.
 -- Assumes nothing.
 use mathlib.Core.Bool.{not, cond}
 use mathlib.Core.List.{List, _∷_, _++_}
@@ -8,32 +8,32 @@ use lib.IntN.{ℤ, pos}
 use Rattle.amounts.specs.Limits.{isSupport}
 use Rattle.refusals.specs.Refusals.{Row, row, Verdict, refuse, accept, judge}
 use Rattle.records.specs.declared.types.Record.{Record}
-use Rattle.plans.specs.declared.types.Message.{Message}
-use Rattle.plans.specs.declared.types.Change.{Change}
-use Rattle.plans.specs.declared.types.Change.the-variants.{Add, Redo, Move, Drop}
-use Rattle.plans.specs.declared.types.Deed.{Deed}
-use Rattle.plans.specs.declared.types.Deed.the-variants.{On, Refund}
+use Rattle.messages.specs.declared.types.Message.{Message}
+use Rattle.messages.specs.declared.types.Change.{Change}
+use Rattle.messages.specs.declared.types.Change.the-variants.{Add, Rebid, Advance, Remove}
+use Rattle.messages.specs.declared.types.Deed.{Deed}
+use Rattle.messages.specs.declared.types.Deed.the-variants.{Keyed, SetSupport}
 use Rattle.records.specs.Records.{blank, isFree, at}
-use Rattle.plans.specs.Plan.{keyOf, asked, planRows}
+use Rattle.messages.specs.Plan.{keyOf, deedFor, planRows}
 use Rattle.endings.specs.declared.types.Answer.the-variants.{Accepted, Refused}
 pub use Rattle.book.specs.declared.types.Outcome.{Outcome}
 use Rattle.book.specs.Places.{swap}
-use Rattle.weighing.specs.Weighing.{weighRows, pass, answeredBy}
+use Rattle.credit.specs.Credit.{creditRows, pass, answeredBy}
 use Rattle.book.specs.Books.{Book, lookup, sound, held, owed, totals, heldShown, owedShown, empty}
 
 -- ---- all the refusals that concern a message, in the paper's order
 
-unfoldable pub askedOf : Book → Message → List ℕ → List ℤ → Deed
-askedOf b m mwhs prices = asked (lookup b (keyOf m)) m mwhs prices
+unfoldable pub deedOf : Book → Message → List ℕ → List ℤ → Deed
+deedOf b m mwhs prices = deedFor (lookup b (keyOf m)) m mwhs prices
 
 unfoldable pub table : Book → Message → List ℕ → List ℤ → List Row
 table b m mwhs prices =
-    row 1 (not (sound b)) ∷ (planRows (lookup b (keyOf m)) m mwhs prices ++ weighRows (totals b) (askedOf b m mwhs prices))
+    row 1 (not (sound b)) ∷ (planRows (lookup b (keyOf m)) m mwhs prices ++ creditRows (totals b) (deedOf b m mwhs prices))
 
 -- accepted exactly when none of them applies, else the first. proofs/Verdicts.antt has it in the two parts that the table is made of,
 -- 2 to 13 by the message and its record, then 14 to 16 by the totals (verdict-is)
 unfoldable pub verdict : Book → Message → List ℕ → List ℤ → Verdict Deed
-verdict b m mwhs prices = judge (table b m mwhs prices) (askedOf b m mwhs prices)
+verdict b m mwhs prices = judge (table b m mwhs prices) (deedOf b m mwhs prices)
 
 unfoldable pub concluded : Book → Verdict Deed → Verdict Deed
 concluded b v = cond (sound b) (pass (totals b) v) (refuse 1)
@@ -43,17 +43,17 @@ concluded b v = cond (sound b) (pass (totals b) v) (refuse 1)
 -- 'A new record takes the lowest free place; .. freed places are used again'
 unfoldable pub change : Change → List Record → List Record
 change (Add r) places = swap isFree r places
-change (Redo was r) places = swap (at (r .key)) r places
-change (Move r) places = swap (at (r .key)) r places
-change (Drop k) places = swap (at k) blank places
+change (Rebid was r) places = swap (at (r .key)) r places
+change (Advance r) places = swap (at (r .key)) r places
+change (Remove k) places = swap (at k) blank places
 
 -- the one way in which a book follows from another
 abbrev pub rebook : Book → ℤ → List Record → Book
 rebook b support places = record { records = places; support = support }
 
 unfoldable pub done : Book → Deed → Book
-done b (On c) = rebook b (b .support) (change c (b .records))
-done b (Refund support) = rebook b support (b .records)
+done b (Keyed c) = rebook b (b .support) (change c (b .records))
+done b (SetSupport support) = rebook b support (b .records)
 
 -- ---- the answer
 

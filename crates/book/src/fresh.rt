@@ -3,13 +3,13 @@ ghost use mathlib.Core.Path.{_≡_};
 ghost use mathlib.Core.Bool.{cond};
 ghost use Rattle.book.specs.Books.{empty as emptyOf, sound, heldShown, owedShown, suspendedShown};
 ghost use Rattle.book.specs.Step.{fresh as freshOf};
-use crate::types::Answer;
 use crate::types::Book;
 use crate::types::Outcome;
 use amounts::Amount;
-use plans::types::Funding;
+use credit::types::Totals;
+use endings::types::Answer;
+use messages::types::Funding;
 use records::types::Record;
-use weighing::types::Totals;
 
 impl Book {
     fn empty(support: i64) -> Book
@@ -48,7 +48,7 @@ impl Book {
     }
 
     // What a screen asks is answered by a message that is always refused, as every refusal answers held and net owed: a support out of range.
-    fn asked(self) -> Answer
+    fn status(self) -> Answer
         ensures { λ a. ⌜ a ≡ Answer.Refused (cond (sound self) 9 1) (heldShown self) (owedShown self) ⌝ }
     {
         self.support(Funding { cents: -1 }).answer
@@ -58,31 +58,31 @@ impl Book {
     pub fn held(self) -> i64
         ensures { λ z. ⌜ z ≡ heldShown self ⌝ }
     {
-        self.asked().held()
+        self.status().held()
     }
 
     // The net billed amount; 0 for a book that is not sound.
     pub fn net_owed(self) -> i64
         ensures { λ z. ⌜ z ≡ owedShown self ⌝ }
     {
-        self.asked().owed()
+        self.status().net_owed()
     }
 
     pub fn is_sound(self) -> bool
         ensures { λ r. ⌜ r ≡ sound self ⌝ }
     {
-        !self.asked().is_unsound()
+        !self.status().is_unsound()
     }
 
     // A book that is not sound takes no bid, so it shows as suspended.
     pub fn suspended(self) -> bool
         ensures { λ r. ⌜ r ≡ suspendedShown self ⌝ }
     {
-        let answer = self.asked();
+        let answer = self.status();
         let totals = Totals {
             support: self.support,
             held: answer.held(),
-            owed: answer.owed(),
+            owed: answer.net_owed(),
             full: false,
         };
         answer.is_unsound() | totals.is_suspended()

@@ -1,4 +1,16 @@
-// One customer's book.
+// One customer's book: the one door. All that a caller needs of messages, records and answers is named here too.
+mod apply;
 mod fresh;
-mod messages;
 pub mod types;
+
+pub use endings::types::Answer;
+pub use messages::types::Billing;
+pub use messages::types::Finishing;
+pub use messages::types::Funding;
+pub use messages::types::Message;
+pub use messages::types::Opening;
+pub use messages::types::Posting;
+pub use records::types::Key;
+pub use records::types::Record;
+pub use types::Book;
+pub use types::Outcome;

@@ -1,5 +1,5 @@
 // One customer's book, and what a message to it answers.
-pub use endings::types::Answer;
+use endings::types::Answer;
 use records::types::Record;
 
 pub struct Book {

@@ -17,20 +17,20 @@ use Rattle.records.specs.declared.types.Key.{Key}
 use Rattle.records.specs.declared.types.Record.{Record}
 use Rattle.records.specs.Records.{blank, sameKey, at}
 use Rattle.records.proofs.Keys.{sameKey-eq, sameKey-refl, free-blank}
-use Rattle.plans.specs.declared.types.Message.{Message}
-use Rattle.plans.specs.declared.types.Message.the-variants.{Open, Revise, Withdraw, Post, Finish, Bill, Pay, Support}
-use Rattle.plans.specs.declared.types.Change.{Change}
-use Rattle.plans.specs.declared.types.Change.the-variants.{Add, Redo, Move, Drop}
-use Rattle.plans.specs.declared.types.Deed.{Deed}
-use Rattle.plans.specs.declared.types.Deed.the-variants.{On}
-use Rattle.plans.specs.Plan.{keyOf, opens, asked, planRows}
-use Rattle.plans.proofs.Fits.{Fits}
-use Rattle.weighing.specs.Weighing.{weighRows, answeredBy}
+use Rattle.messages.specs.declared.types.Message.{Message}
+use Rattle.messages.specs.declared.types.Message.the-variants.{Open, Revise, Withdraw, Post, Finish, Bill, Pay, Support}
+use Rattle.messages.specs.declared.types.Change.{Change}
+use Rattle.messages.specs.declared.types.Change.the-variants.{Add, Rebid, Advance, Remove}
+use Rattle.messages.specs.declared.types.Deed.{Deed}
+use Rattle.messages.specs.declared.types.Deed.the-variants.{Keyed}
+use Rattle.messages.specs.Plan.{keyOf, opens, deedFor, planRows}
+use Rattle.messages.proofs.Fits.{Fits}
+use Rattle.credit.specs.Credit.{creditRows, answeredBy}
 use Rattle.book.specs.declared.types.Book.{Book}
 use Rattle.book.specs.Places.{find, orElseBlank}
 use Rattle.book.specs.Books.{lookup, sound, full, totals}
 use Rattle.endings.specs.Answers.{reply}
-use Rattle.book.specs.Step.{askedOf, table, change, rebook, done, step}
+use Rattle.book.specs.Step.{deedOf, table, change, rebook, done, step}
 use Rattle.book.proofs.Effect.{Effect, weight, mark}
 use Rattle.book.proofs.Kept.{lookup-none, effect, leaves, done-sound}
 use Rattle.promises.proofs.Answers.{none-accepted}
@@ -72,19 +72,19 @@ shift w w′ a a′ c u v h k e = omega (arith, signed, sum-of w′ u, sum-of w 
 
 -- ---- where the key's record stands
 
-opens-none : (b : Book) (m : Message) (c : Change) → Fits (lookup b (keyOf m)) m (On c) → opens m ≡ true → under (keyOf m) b ≡ none
+opens-none : (b : Book) (m : Message) (c : Change) → Fits (lookup b (keyOf m)) m (Keyed c) → opens m ≡ true → under (keyOf m) b ≡ none
 opens-none b m (Add r) f h = lookup-none b (keyOf m) (f .free)
-opens-none b m (Redo was r) f h = never (sym (f .later) ∙ h)
-opens-none b m (Move r) f h = never (sym (f .later) ∙ h)
-opens-none b m (Drop k) f h = never (sym (f .later) ∙ h)
+opens-none b m (Rebid was r) f h = never (sym (f .later) ∙ h)
+opens-none b m (Advance r) f h = never (sym (f .later) ∙ h)
+opens-none b m (Remove k) f h = never (sym (f .later) ∙ h)
 
 -- only an open needs a free place
-opens-room : (b : Book) (m : Message) (c : Change) → Fits (lookup b (keyOf m)) m (On c) → None (weighRows (totals b) (On c)) → opens m ≡ true → full b ≡ false
+opens-room : (b : Book) (m : Message) (c : Change) → Fits (lookup b (keyOf m)) m (Keyed c) → None (creditRows (totals b) (Keyed c)) → opens m ≡ true → full b ≡ false
 unfolding None totals
 opens-room b m (Add r) f w h = w .1 .0
-opens-room b m (Redo was r) f w h = never (sym (f .later) ∙ h)
-opens-room b m (Move r) f w h = never (sym (f .later) ∙ h)
-opens-room b m (Drop k) f w h = never (sym (f .later) ∙ h)
+opens-room b m (Rebid was r) f w h = never (sym (f .later) ∙ h)
+opens-room b m (Advance r) f w h = never (sym (f .later) ∙ h)
+opens-room b m (Remove k) f w h = never (sym (f .later) ∙ h)
 
 beq-refl : (s : Bool) → Bool·beq s s ≡ true
 beq-refl true = refl
@@ -110,7 +110,7 @@ owner-others true false s t e = refl
 owner-others false same s t e = refl
 
 module _ (o : Key → Bool) (W : Book) (D : Bool → Book) (I : Deal o W D) where
-  module _ (s : Bool) (m : Message) (follows : opens m ≡ false → s ≡ o (keyOf m)) (c : Change) (fits : Fits (lookup W (keyOf m)) m (On c)) where
+  module _ (s : Bool) (m : Message) (follows : opens m ≡ false → s ≡ o (keyOf m)) (c : Change) (fits : Fits (lookup W (keyOf m)) m (Keyed c)) where
     abbrev its : Key
     its = keyOf m
 
@@ -206,7 +206,7 @@ module _ (o : Key → Bool) (W : Book) (D : Bool → Book) (I : Deal o W D) wher
 -- ---- one message
 
 -- a keyed message asks for a change of the places
-keyed-asks : (old : Record) (m : Message) (ms : List ℕ) (ps : List ℤ) → keyed m ≡ true → (c : Change) × (asked old m ms ps ≡ On c)
+keyed-asks : (old : Record) (m : Message) (ms : List ℕ) (ps : List ℤ) → keyed m ≡ true → (c : Change) × (deedFor old m ms ps ≡ Keyed c)
 keyed-asks old (Open o) ms ps h = (_, refl)
 keyed-asks old (Revise o) ms ps h = (_, refl)
 keyed-asks old (Withdraw k) ms ps h = (_, refl)
@@ -217,10 +217,10 @@ keyed-asks old (Pay k) ms ps h = (_, refl)
 keyed-asks old (Support s) ms ps h = never h
 
 -- accepted, from the parts of the table
-pub takes : (b : Book) (m : Message) (ms : List ℕ) (ps : List ℤ) → sound b ≡ true → None (planRows (lookup b (keyOf m)) m ms ps) → None (weighRows (totals b) (askedOf b m ms ps))
+pub takes : (b : Book) (m : Message) (ms : List ℕ) (ps : List ℤ) → sound b ≡ true → None (planRows (lookup b (keyOf m)) m ms ps) → None (creditRows (totals b) (deedOf b m ms ps))
     → reply (step b m ms ps .answer) .number ≡ 0
 unfolding table None
-takes b m ms ps h p w = none-accepted b m ms ps (ap not h, none-join (planRows (lookup b (keyOf m)) m ms ps) (weighRows (totals b) (askedOf b m ms ps)) p w)
+takes b m ms ps h p w = none-accepted b m ms ps (ap not h, none-join (planRows (lookup b (keyOf m)) m ms ps) (creditRows (totals b) (deedOf b m ms ps)) p w)
 
 pub record Went (o : Key → Bool) (W : Book) (D : Bool → Book) (x : Dealt) : Type 0 where
   pub taken : reply (sentTo (D (x .side)) (x .sent) .answer) .number ≡ 0
@@ -229,7 +229,7 @@ pub record Went (o : Key → Bool) (W : Book) (D : Bool → Book) (x : Dealt) : 
 
 pub deal-step : (o : Key → Bool) (W : Book) (D : Bool → Book) → Deal o W D → (x : Dealt) → keyed (x .sent .message) ≡ true → Follows o x
     → reply (sentTo W (x .sent) .answer) .number ≡ 0 → Went o W D x
-unfolding Follows owner askedOf lookup done
+unfolding Follows owner deedOf lookup done
 deal-step o W D I x keys follows accepted =
     let s = x .side in
     let m = x .sent .message in
@@ -239,17 +239,17 @@ deal-step o W D I x keys follows accepted =
     let asks = keyed-asks (lookup W k) m ms ps keys in
     let c : Change = asks .0 in
     let whole = taken W m ms ps accepted in
-    let fits : Fits (lookup W k) m (On c) = subst (Fits (lookup W k) m) (asks .1) (fitting W m ms ps whole) in
-    let weighed : None (weighRows (totals W) (On c)) = subst (λ (d : Deed). None (weighRows (totals W) d)) (asks .1) (whole .weighed) in
+    let fits : Fits (lookup W k) m (Keyed c) = subst (Fits (lookup W k) m) (asks .1) (fitting W m ms ps whole) in
+    let weighed : None (creditRows (totals W) (Keyed c)) = subst (λ (d : Deed). None (creditRows (totals W) d)) (asks .1) (whole .weighed) in
     let own : under k (D s) ≡ under k W = own-find o W D I s m (follows keys) c fits in
     let same : lookup (D s) k ≡ lookup W k = ap (orElseBlank blank) own in
-    let asks′ : asked (lookup (D s) k) m ms ps ≡ On c = ap (λ (r : Record). asked r m ms ps) same ∙ asks .1 in
-    let fits′ : Fits (lookup (D s) k) m (On c) = subst (λ (r : Record). Fits r m (On c)) (sym same) fits in
+    let asks′ : deedFor (lookup (D s) k) m ms ps ≡ Keyed c = ap (λ (r : Record). deedFor r m ms ps) same ∙ asks .1 in
+    let fits′ : Fits (lookup (D s) k) m (Keyed c) = subst (λ (r : Record). Fits r m (Keyed c)) (sym same) fits in
     let room : opens m ≡ true → full (D s) ≡ false = λ e. side-room o W D I s (opens-room W m c fits weighed e) in
-    let weighed′ : None (weighRows (totals (D s)) (On c)) = weighed-top (D s) m (I .sane s) (I .sizes s) (I .top s) (On c) fits′ room in
+    let weighed′ : None (creditRows (totals (D s)) (Keyed c)) = weighed-top (D s) m (I .sane s) (I .sizes s) (I .top s) (Keyed c) fits′ room in
     let accepted′ : reply (step (D s) m ms ps .answer) .number ≡ 0 =
     takes (D s) m ms ps (I .sane s) (subst (λ (r : Record). None (planRows r m ms ps)) (sym same) (whole .planned))
-    (subst (λ (d : Deed). None (weighRows (totals (D s)) d)) (sym asks′) weighed′) in
+    (subst (λ (d : Deed). None (creditRows (totals (D s)) d)) (sym asks′) weighed′) in
     let side = taken (D s) m ms ps accepted′ in
     record {
       taken = accepted′;
@@ -260,5 +260,5 @@ deal-step o W D I x keys follows accepted =
           (other-find o W D I s m (follows keys) c fits)
           (effect W m c (whole .sane) fits weighed)
           (effect (D s) m c (I .sane s) fits′ weighed′)
-          (done-sound (D s) m (On c) (I .sane s) fits′ weighed′));
+          (done-sound (D s) m (Keyed c) (I .sane s) fits′ weighed′));
     }

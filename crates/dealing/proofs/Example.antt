@@ -18,14 +18,14 @@ use Rattle.formulas.specs.Stages.{importPosted, balancing, importFinished, expo
 use Rattle.formulas.specs.Entries.{postedVerdict, finishedVerdict}
 use Rattle.records.specs.declared.types.Key.{Key}
 use Rattle.records.specs.Records.{isBlank, isFree, sameKey, at, okRecord, okPlace, keyRows}
-use Rattle.plans.specs.declared.types.Message.{Message}
-use Rattle.plans.specs.declared.types.Message.the-variants.{Open, Post, Finish, Bill, Pay, Support}
-use Rattle.plans.specs.Plan.{bidFor, postedFor, finishedFor, stageRows}
-use Rattle.weighing.specs.Weighing.{suspended}
-use Rattle.weighing.specs.Weights.{owes}
+use Rattle.messages.specs.declared.types.Message.{Message}
+use Rattle.messages.specs.declared.types.Message.the-variants.{Open, Post, Finish, Bill, Pay, Support}
+use Rattle.messages.specs.Plan.{bidFor, postedFor, finishedFor, stageRows}
+use Rattle.credit.specs.Credit.{suspended}
+use Rattle.credit.specs.Weights.{owes}
 use Rattle.book.specs.Places.{find, swap, missing, orElseBlank}
 use Rattle.book.specs.Books.{lookup, distinct, sound, held, owed, full, totals, noRecords}
-use Rattle.book.specs.Step.{askedOf, table, verdict, change, done, outcome, step, fresh}
+use Rattle.book.specs.Step.{deedOf, table, verdict, change, done, outcome, step, fresh}
 use Rattle.promises.specs.Runs.{after}
 use Rattle.dealing.specs.Dealing.{Accepted, requirements, Dealt, whole, part, owner, Follows, Fair, wholeBook, sideBook, Split}
 use Rattle.dealing.proofs.Dealing.{demand-three}
@@ -113,7 +113,7 @@ record Seen : Type 0 where
   whole-owed : owed (wholeBook support run) ≡ pos 25000
 
 seen : Seen
-unfolding Accepted requirements Fair Follows owner whole part after fresh step verdict outcome done change askedOf table judge answered first lookup find swap missing orElseBlank sound every distinct okPlace okRecord isBlank isFree sameKey at noRecords totals held owed owes full suspended sum bidFor postedFor finishedFor keyRows stageRows pointRows deliveryRows bidRows postedRows finishedRows billRows bidVerdict postedVerdict finishedVerdict bidMwh bidRequirement postedRequirement finishedRequirement byKind importBid importPosted balancing importFinished unlessExempt exportBid hourAheadBid exportPosted exportFinished hourAheadFinished wheelPosted wheelFinished largestMwh totalMwh mwhAt tried exposure wheelExposure
+unfolding Accepted requirements Fair Follows owner whole part after fresh step verdict outcome done change deedOf table judge answered first lookup find swap missing orElseBlank sound every distinct okPlace okRecord isBlank isFree sameKey at noRecords totals held owed owes full suspended sum bidFor postedFor finishedFor keyRows stageRows pointRows deliveryRows bidRows postedRows finishedRows billRows bidVerdict postedVerdict finishedVerdict bidMwh bidRequirement postedRequirement finishedRequirement byKind importBid importPosted balancing importFinished unlessExempt exportBid hourAheadBid exportPosted exportFinished hourAheadFinished wheelPosted wheelFinished largestMwh totalMwh mwhAt tried exposure wheelExposure
 seen =
     record {
       accepted = (refl, (refl, (refl, (refl, (refl, (refl, (refl, (refl, (refl, (refl, (refl, (refl, (refl, tt)))))))))))));

@@ -16,15 +16,15 @@ use Rattle.bids.proofs.Joining.{joining}
 use Rattle.records.specs.declared.types.Record.{Record}
 use Rattle.records.specs.Records.{blank, isFree, keyRows}
 use Rattle.records.proofs.Keys.{free-blank}
-use Rattle.plans.specs.declared.types.Opening.{Opening}
-use Rattle.plans.specs.declared.types.Message.the-variants.{Open}
-use Rattle.plans.specs.Plan.{planRows, plan}
-use Rattle.plans.proofs.Fits.{fits}
+use Rattle.messages.specs.declared.types.Opening.{Opening}
+use Rattle.messages.specs.declared.types.Message.the-variants.{Open}
+use Rattle.messages.specs.Plan.{planRows, plan}
+use Rattle.messages.proofs.Fits.{fits}
 use Rattle.book.specs.declared.types.Book.{Book}
 use Rattle.book.specs.Places.{find, missing, orElseBlank}
 use Rattle.book.specs.Books.{lookup, full, noRecords, empty}
 use Rattle.endings.specs.Answers.{reply}
-use Rattle.book.specs.Step.{askedOf, fresh, step}
+use Rattle.book.specs.Step.{deedOf, fresh, step}
 use Rattle.book.proofs.Kept.{lookup-under}
 use Rattle.promises.proofs.Taken.{taken}
 use Rattle.promises.proofs.Requirements.{open-sets}
@@ -88,9 +88,9 @@ module _ (o : Opening) (m₁ m₂ : List ℕ) (p₁ p₂ : List ℤ) (export : i
   room = refl
 
   top-takes : reply (step top (Open o) (m₁ ++ m₂) (p₁ ++ p₂) .answer) .number ≡ 0
-  unfolding plan askedOf
+  unfolding plan deedOf
   top-takes =
-      let d = askedOf top (Open o) (m₁ ++ m₂) (p₁ ++ p₂) in
+      let d = deedOf top (Open o) (m₁ ++ m₂) (p₁ ++ p₂) in
       let sane = empty-sound (pos topSupport) refl in
       let fit = fits (lookup top (o .key)) (Open o) (m₁ ++ m₂) (p₁ ++ p₂) d (lookup-under top (o .key) sane) (judge-none (planRows (lookup top (o .key)) (Open o) (m₁ ++ m₂) (p₁ ++ p₂)) d passed) in
       takes top (Open o) (m₁ ++ m₂) (p₁ ++ p₂) sane passed (weighed-top top (Open o) sane empty-places refl d fit (λ e. room))

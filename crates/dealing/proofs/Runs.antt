@@ -8,10 +8,10 @@ use Rattle.amounts.proofs.Signed.{tested}
 use Rattle.refusals.proofs.Laws.{never}
 use Rattle.records.specs.declared.types.Key.{Key}
 use Rattle.records.specs.Records.{sameKey}
-use Rattle.plans.specs.declared.types.Funding.{Funding}
-use Rattle.plans.specs.declared.types.Message.{Message}
-use Rattle.plans.specs.declared.types.Message.the-variants.{Open, Revise, Withdraw, Post, Finish, Bill, Pay, Support}
-use Rattle.plans.specs.Plan.{keyOf, opens}
+use Rattle.messages.specs.declared.types.Funding.{Funding}
+use Rattle.messages.specs.declared.types.Message.{Message}
+use Rattle.messages.specs.declared.types.Message.the-variants.{Open, Revise, Withdraw, Post, Finish, Bill, Pay, Support}
+use Rattle.messages.specs.Plan.{keyOf, opens}
 use Rattle.book.specs.declared.types.Book.{Book}
 use Rattle.endings.specs.Answers.{reply}
 use Rattle.book.specs.Step.{rebook, step}

@@ -14,15 +14,15 @@ use Rattle.records.specs.declared.types.Record.{Record}
 use Rattle.records.specs.Records.{at, okPlace}
 use Rattle.records.proofs.Keys.{ok-place}
 use Rattle.records.proofs.Bounds.{requirement-bounded}
-use Rattle.plans.specs.declared.types.Message.{Message}
-use Rattle.plans.specs.declared.types.Change.the-variants.{Add, Redo, Move, Drop}
-use Rattle.plans.specs.declared.types.Deed.{Deed}
-use Rattle.plans.specs.declared.types.Deed.the-variants.{On, Refund}
-use Rattle.plans.specs.Plan.{keyOf, opens}
-use Rattle.plans.proofs.Fits.{Fine, Fits}
-use Rattle.weighing.specs.Bounds.{Small}
-use Rattle.weighing.specs.declared.types.Totals.{Totals}
-use Rattle.weighing.specs.Weighing.{suspended, weighRows}
+use Rattle.messages.specs.declared.types.Message.{Message}
+use Rattle.messages.specs.declared.types.Change.the-variants.{Add, Rebid, Advance, Remove}
+use Rattle.messages.specs.declared.types.Deed.{Deed}
+use Rattle.messages.specs.declared.types.Deed.the-variants.{Keyed, SetSupport}
+use Rattle.messages.specs.Plan.{keyOf, opens}
+use Rattle.messages.proofs.Fits.{Fine, Fits}
+use Rattle.credit.specs.Bounds.{TotalsBounded}
+use Rattle.credit.specs.declared.types.Totals.{Totals}
+use Rattle.credit.specs.Credit.{suspended, creditRows}
 use Rattle.book.specs.declared.types.Book.{Book}
 use Rattle.book.specs.Books.{lookup, sound, held, owed, full, totals}
 use Rattle.book.proofs.Places.{every-find}
@@ -30,7 +30,7 @@ use Rattle.book.proofs.Kept.{sound-places, lookup-some}
 use Rattle.book.proofs.Written.{totals-small}
 use Rattle.dealing.specs.Dealing.{topSupport}
 
-module _ (t : Totals) (top : t .support ≡ pos topSupport) (small : Small t) where
+module _ (t : Totals) (top : t .support ≡ pos topSupport) (small : TotalsBounded t) where
   not-suspended : suspended t ≡ false
   unfolding suspended
   not-suspended =
@@ -59,15 +59,15 @@ module _ (b : Book) (m : Message) (sane : sound b ≡ true) (size : length (b .r
   top-support = top
 
   -- refusals 14 to 16 do not apply, where an open finds a free place
-  pub weighed-top : (d : Deed) → Fits (lookup b (keyOf m)) m d → (opens m ≡ true → full b ≡ false) → None (weighRows (totals b) d)
+  pub weighed-top : (d : Deed) → Fits (lookup b (keyOf m)) m d → (opens m ≡ true → full b ≡ false) → None (creditRows (totals b) d)
   unfolding None totals
-  weighed-top (On (Add r)) f room =
+  weighed-top (Keyed (Add r)) f room =
       let t = totals b in
       let small = totals-small b sane size in (
         not-suspended t top-support small,
         (room (f .begins), (not-above t top-support small (t .held +ℤ r .requirement) (added-within t top-support small (r .requirement) (fine-within m r (f .fine))), tt)),
       )
-  weighed-top (On (Redo was r)) f room =
+  weighed-top (Keyed (Rebid was r)) f room =
       let t = totals b in
       let small = totals-small b sane size in
       let old = lookup b (keyOf m) in
@@ -81,6 +81,6 @@ module _ (b : Book) (m : Message) (sane : sound b ≡ true) (size : length (b .r
           tt,
         ),
       )
-  weighed-top (On (Move r)) f room = tt
-  weighed-top (On (Drop k)) f room = tt
-  weighed-top (Refund z) f room = tt
+  weighed-top (Keyed (Advance r)) f room = tt
+  weighed-top (Keyed (Remove k)) f room = tt
+  weighed-top (SetSupport z) f room = tt

@@ -7,9 +7,9 @@ use Prim.Native.Nat.{ℕ}
 use lib.IntN.{ℤ, pos, _+ℤ_}
 use Rattle.records.specs.declared.types.Key.{Key}
 use Rattle.records.specs.Records.{blank, sameKey}
-use Rattle.plans.specs.declared.types.Message.{Message}
-use Rattle.plans.specs.declared.types.Message.the-variants.{Open, Revise, Withdraw, Post, Finish, Bill, Pay, Support}
-use Rattle.plans.specs.Plan.{keyOf, opens}
+use Rattle.messages.specs.declared.types.Message.{Message}
+use Rattle.messages.specs.declared.types.Message.the-variants.{Open, Revise, Withdraw, Post, Finish, Bill, Pay, Support}
+use Rattle.messages.specs.Plan.{keyOf, opens}
 use Rattle.book.specs.declared.types.Book.{Book}
 use Rattle.book.specs.Books.{lookup, held, owed}
 use Rattle.book.specs.declared.types.Outcome.{Outcome}

@@ -5,8 +5,8 @@ use mathlib.Core.List.{List}
 use Prim.Native.Nat.{ℕ}
 use lib.IntN.{ℤ, _+ℤ_}
 use lib.Signed.{_≤ℤ_}
-use Rattle.plans.specs.declared.types.Opening.{Opening}
-use Rattle.plans.specs.declared.types.Message.the-variants.{Open}
+use Rattle.messages.specs.declared.types.Opening.{Opening}
+use Rattle.messages.specs.declared.types.Message.the-variants.{Open}
 use Rattle.book.specs.declared.types.Book.{Book}
 use Rattle.book.specs.Books.{lookup}
 use Rattle.endings.specs.Answers.{reply}

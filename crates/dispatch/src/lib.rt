@@ -1,8 +1,8 @@
 // The eight messages as one: the key that any of them has, and what it asks of the record under it.
 ghost use mathlib.Core.Path.{_≡_};
-ghost use Rattle.plans.specs.Plan.{keyOf, plan, planned};
-use plans::types::Message;
-use plans::types::Planned;
+ghost use Rattle.messages.specs.Plan.{keyOf, plan, planned};
+use messages::types::Message;
+use messages::types::Planned;
 use records::types::Key;
 use records::types::Record;
 

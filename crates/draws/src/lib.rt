@@ -3,6 +3,6 @@
 pub mod changes;
 pub mod digest;
 pub mod generator;
-pub mod messages;
 pub mod points;
+pub mod turns;
 pub mod values;

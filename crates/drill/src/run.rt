@@ -1,7 +1,7 @@
 // A run: turn after turn, each on the book that the last one left.
 use crate::report;
 use asks::Ask;
-use book::types::Book;
+use book::Book;
 use draws::digest::mix_cents;
 use draws::values;
 use refusals::pick;

@@ -7,7 +7,7 @@ mod say;
 
 ghost use Prim.Native.Nat.{_≤_};
 ghost use lib.ListN.{length};
-use book::types::Book;
+use book::Book;
 use libc::STDIN_FILENO;
 
 // The end of the line that goes on from here.

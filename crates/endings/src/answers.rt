@@ -5,6 +5,26 @@ ghost use Rattle.endings.specs.Answers.{reply};
 use crate::types::Answer;
 
 impl Answer {
+    // The refusal's number; 0 is acceptance.
+    pub fn number(self) -> u64
+        ensures { λ n. ⌜ n ≡ reply self .number ⌝ }
+    {
+        match self {
+            Answer::Accepted { .. } => 0,
+            Answer::Refused { number, .. } => number,
+        }
+    }
+
+    // The key's requirement; 0 in a refusal.
+    pub fn requirement(self) -> i64
+        ensures { λ z. ⌜ z ≡ reply self .requirement ⌝ }
+    {
+        match self {
+            Answer::Accepted { requirement, .. } => requirement,
+            Answer::Refused { .. } => 0,
+        }
+    }
+
     pub fn held(self) -> i64
         ensures { λ z. ⌜ z ≡ reply self .held ⌝ }
     {
@@ -14,7 +34,7 @@ impl Answer {
         }
     }
 
-    pub fn owed(self) -> i64
+    pub fn net_owed(self) -> i64
         ensures { λ z. ⌜ z ≡ reply self .owed ⌝ }
     {
         match self {

@@ -2,52 +2,52 @@
 ghost use mathlib.Core.Path.{_≡_};
 ghost use mathlib.Core.Bool.{true};
 ghost use Rattle.records.specs.Records.{okPlace};
-ghost use Rattle.weighing.specs.Bounds.{Small};
-ghost use Rattle.weighing.specs.Weighing.{weigh};
-ghost use Rattle.endings.specs.Endings.{Ready, Apt, asVerdict, sightOf, still, turnedAway, unsound, putIn, carriedOut, endingOf, ended};
+ghost use Rattle.credit.specs.Bounds.{TotalsBounded};
+ghost use Rattle.credit.specs.Credit.{creditVerdict};
+ghost use Rattle.endings.specs.Endings.{Ready, Apt, asVerdict, viewOf, unwritten, turnedAway, unsound, putIn, carriedOut, endingOf, ended};
 use crate::types::Answer;
 use crate::types::Ending;
-use crate::types::Sight;
+use crate::types::View;
 use amounts::Amount;
-use plans::types::Change;
-use plans::types::Deed;
-use plans::types::Planned;
+use credit::owes;
+use credit::types::Totals;
+use messages::types::Change;
+use messages::types::Deed;
+use messages::types::Planned;
 use records::types::Record;
-use seen::types::Seen;
-use weighing::owes;
-use weighing::types::Totals;
+use walk::types::Walk;
 
 impl Ending {
     // Nothing but the support is written.
-    fn still(answer: Answer, support: i64) -> Ending
-        ensures { λ e. ⌜ e ≡ still answer support ⌝ }
+    fn unwritten(answer: Answer, support: i64) -> Ending
+        ensures { λ e. ⌜ e ≡ unwritten answer support ⌝ }
     {
         let new = Record::blank();
         Ending {
             answer,
             support,
-            place: Seen::NOWHERE,
+            place: Walk::NOWHERE,
             new,
         }
     }
 }
 
-impl Sight {
+impl View {
     // What is seen of a book of this support, once the walk has passed every place.
-    pub fn of(seen: Seen, support: i64, codes: &[u64; 256], old: Record) -> Sight
-        ensures { λ s. ⌜ s ≡ sightOf seen support (now (codes .entry)) old ⌝ }
+    pub fn of(walk: Walk, support: i64, codes: &[u64; 256], old: Record) -> View
+        ensures { λ s. ⌜ s ≡ viewOf walk support (now (codes .entry)) old ⌝ }
     {
         let amount = Amount { cents: support };
-        Sight {
-            sound: seen.ranged & amount.is_support() & apart::all_apart(codes),
+        View {
+            sound: walk.ranged & amount.is_support() & distinct::all_distinct(codes),
             totals: Totals {
                 support,
-                held: seen.held,
-                owed: seen.owed,
-                full: seen.free == Seen::NOWHERE,
+                held: walk.held,
+                owed: walk.owed,
+                full: walk.free == Walk::NOWHERE,
             },
-            free: seen.free,
-            at: seen.at,
+            free: walk.free,
+            at: walk.at,
             old,
         }
     }
@@ -61,12 +61,12 @@ impl Sight {
             held: totals.held,
             owed: totals.owed,
         };
-        Ending::still(answer, totals.support)
+        Ending::unwritten(answer, totals.support)
     }
 
     // A record in another's stead. The sums are those before, less what the old one weighs, and what the new one weighs.
     fn put(self, place: u64, was: Record, new: Record) -> Ending
-        requires { ⌜ Small (self .totals) ⌝ }
+        requires { ⌜ TotalsBounded (self .totals) ⌝ }
         requires { ⌜ okPlace was ≡ true ⌝ }
         requires { ⌜ okPlace new ≡ true ⌝ }
         ensures { λ e. ⌜ e ≡ putIn self place was new ⌝ }
@@ -85,19 +85,19 @@ impl Sight {
     }
 
     fn changed(self, change: Change) -> Ending
-        requires { ⌜ Ready self (Deed.On change) ⌝ }
-        ensures { λ e. ⌜ e ≡ carriedOut self (Deed.On change) ⌝ }
+        requires { ⌜ Ready self (Deed.Keyed change) ⌝ }
+        ensures { λ e. ⌜ e ≡ carriedOut self (Deed.Keyed change) ⌝ }
     {
         match change {
             Change::Add(r) => self.put(self.free, Record::blank(), r),
-            Change::Redo(_, r) => self.put(self.at, self.old, r),
-            Change::Move(r) => self.put(self.at, self.old, r),
-            Change::Drop(_) => self.put(self.at, self.old, Record::blank()),
+            Change::Rebid(_, r) => self.put(self.at, self.old, r),
+            Change::Advance(r) => self.put(self.at, self.old, r),
+            Change::Remove(_) => self.put(self.at, self.old, Record::blank()),
         }
     }
 
     fn funded(self, support: i64) -> Ending
-        ensures { λ e. ⌜ e ≡ carriedOut self (Deed.Refund support) ⌝ }
+        ensures { λ e. ⌜ e ≡ carriedOut self (Deed.SetSupport support) ⌝ }
     {
         let totals = self.totals;
         let answer = Answer::Accepted {
@@ -105,21 +105,21 @@ impl Sight {
             held: totals.held,
             owed: totals.owed,
         };
-        Ending::still(answer, support)
+        Ending::unwritten(answer, support)
     }
 
     fn carried(self, deed: Deed) -> Ending
         requires { ⌜ Ready self deed ⌝ }
-        ensures { λ e. ⌜ e ≡ endingOf self (weigh (self .totals) deed) ⌝ }
+        ensures { λ e. ⌜ e ≡ endingOf self (creditVerdict (self .totals) deed) ⌝ }
     {
         let totals = self.totals;
-        let number = totals.weigh(deed);
+        let number = totals.refusal(deed);
         if !(number == 0) {
             return self.refused(number);
         }
         match deed {
-            Deed::On(change) => self.changed(change),
-            Deed::Refund(support) => self.funded(support),
+            Deed::Keyed(change) => self.changed(change),
+            Deed::SetSupport(support) => self.funded(support),
         }
     }
 
@@ -132,7 +132,7 @@ impl Sight {
             held: 0,
             owed: 0,
         };
-        Ending::still(answer, totals.support)
+        Ending::unwritten(answer, totals.support)
     }
 
     pub fn ending(self, plan: Planned) -> Ending

@@ -1,9 +1,9 @@
 // What a message sees of a book, how it ends, and what it answers.
+use credit::types::Totals;
 use records::types::Record;
-use weighing::types::Totals;
 
 // All that a message sees of a book.
-pub struct Sight {
+pub struct View {
     pub sound: bool,
     pub totals: Totals,
     // The lowest free place, and the place of the message's key; 256 where there is none.

@@ -4,7 +4,7 @@ use mathlib.Core.Bool.{Bool, true, false, _||_}
 use Prim.Native.Nat.{ℕ}
 use borrow.Author.Tests.{ltb-false, le-ltb}
 use lib.Dec.{T, ltb}
-use Rattle.history.specs.Test.{faulty, below, contradict, Fair, Consistent}
+use Rattle.history.specs.Test.{faulty, below, contradict, Coherent, Consistent}
 use Rattle.history.specs.declared.Window.{Window}
 use Rattle.history.specs.declared.History.{History}
 
@@ -23,7 +23,7 @@ neither : (a b : Bool) → a ≡ false → b ≡ false → (a || b) ≡ false
 neither true b p q = p
 neither false b p q = q
 
-fair : (w : Window) → faulty w ≡ false → Fair w
+fair : (w : Window) → faulty w ≡ false → Coherent w
 fair w e =
     let m : ℕ = 1000000000 in
     let l = w .loss in
@@ -36,7 +36,7 @@ fair w e =
       loss-in-mwh = ltb-false (w .mwh) l (right (ltb m (w .bids) || ltb m (w .mwh) || ltb m l) (ltb (w .mwh) l) e);
     }
 
-not-faulty : (w : Window) → Fair w → faulty w ≡ false
+not-faulty : (w : Window) → Coherent w → faulty w ≡ false
 not-faulty w f =
     simp (le-ltb 1000000000 (w .bids) (f .bids-most), le-ltb 1000000000 (w .mwh) (f .mwh-most), le-ltb 1000000000 (w .loss) (f .loss-most), le-ltb (w .mwh) (w .loss) (f .loss-in-mwh))
 

@@ -61,7 +61,7 @@ exemptOf NotExempt = 0
 exemptOf Refused = 0
 
 -- a window whose numbers are in range, its loss within its MWh
-pub record Fair (w : Window) : Type 0 where
+pub record Coherent (w : Window) : Type 0 where
   pub bids-most : w .bids ≤ 1000000000
   pub mwh-most : w .mwh ≤ 1000000000
   pub loss-most : w .loss ≤ 1000000000
@@ -69,8 +69,8 @@ pub record Fair (w : Window) : Type 0 where
 
 -- windows that do not contradict: no six-month number below its three-month one
 pub record Consistent (h : History) : Type 0 where
-  pub three : Fair (h .three)
-  pub six : Fair (h .six)
+  pub three : Coherent (h .three)
+  pub six : Coherent (h .six)
   pub bids : h .three .bids ≤ h .six .bids
   pub mwh : h .three .mwh ≤ h .six .mwh
   pub loss : h .three .loss ≤ h .six .loss

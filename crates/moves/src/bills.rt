@@ -2,15 +2,15 @@
 ghost use mathlib.Core.Path.{_≡_};
 ghost use mathlib.Core.List.{[]};
 ghost use Rattle.refusals.specs.Refusals.{first};
-ghost use Rattle.plans.specs.Plan.{planRows, plan, planned};
+ghost use Rattle.messages.specs.Plan.{planRows, plan, planned};
 use crate::finishes::moved;
-use plans::answer;
-use plans::stage_refusal;
-use plans::types::Billing;
-use plans::types::Change;
-use plans::types::Deed;
-use plans::types::Message;
-use plans::types::Planned;
+use messages::answer;
+use messages::stage_refusal;
+use messages::types::Billing;
+use messages::types::Change;
+use messages::types::Deed;
+use messages::types::Message;
+use messages::types::Planned;
 use records::types::Record;
 use refusals::or_else;
 
@@ -29,5 +29,8 @@ pub fn bill(billing: Billing, old: Record) -> Planned
     ensures { λ r. ⌜ r ≡ planned (plan old (Message.Bill billing) [] []) ⌝ }
 {
     let next = moved(old, Record::BILLED, billing.cents);
-    answer(bill_refusal(billing, old), Deed::On(Change::Move(next)))
+    answer(
+        bill_refusal(billing, old),
+        Deed::Keyed(Change::Advance(next)),
+    )
 }

@@ -1,13 +1,13 @@
 // A withdrawal and a payment, which free the place.
 ghost use mathlib.Core.Path.{_≡_};
 ghost use mathlib.Core.List.{[]};
-ghost use Rattle.plans.specs.Plan.{plan, planned};
-use plans::answer;
-use plans::stage_refusal;
-use plans::types::Change;
-use plans::types::Deed;
-use plans::types::Message;
-use plans::types::Planned;
+ghost use Rattle.messages.specs.Plan.{plan, planned};
+use messages::answer;
+use messages::stage_refusal;
+use messages::types::Change;
+use messages::types::Deed;
+use messages::types::Message;
+use messages::types::Planned;
 use records::types::Key;
 use records::types::Record;
 use refusals::or_else;
@@ -16,7 +16,7 @@ pub fn withdraw(key: Key, old: Record) -> Planned
     ensures { λ r. ⌜ r ≡ planned (plan old (Message.Withdraw key) [] []) ⌝ }
 {
     let number = or_else(key.refusal(), stage_refusal(old, old.stage == Record::BID));
-    answer(number, Deed::On(Change::Drop(key)))
+    answer(number, Deed::Keyed(Change::Remove(key)))
 }
 
 pub fn pay(key: Key, old: Record) -> Planned
@@ -26,5 +26,5 @@ pub fn pay(key: Key, old: Record) -> Planned
         key.refusal(),
         stage_refusal(old, old.stage == Record::BILLED),
     );
-    answer(number, Deed::On(Change::Drop(key)))
+    answer(number, Deed::Keyed(Change::Remove(key)))
 }

@@ -2,14 +2,14 @@
 ghost use mathlib.Core.Path.{_≡_};
 ghost use mathlib.Core.List.{[]};
 ghost use Rattle.refusals.specs.Refusals.{first};
-ghost use Rattle.plans.specs.Plan.{moved, finishedFor, beforeFinish, planRows, plan, planned};
-use plans::answer;
-use plans::stage_refusal;
-use plans::types::Change;
-use plans::types::Deed;
-use plans::types::Finishing;
-use plans::types::Message;
-use plans::types::Planned;
+ghost use Rattle.messages.specs.Plan.{moved, finishedFor, beforeFinish, planRows, plan, planned};
+use messages::answer;
+use messages::stage_refusal;
+use messages::types::Change;
+use messages::types::Deed;
+use messages::types::Finishing;
+use messages::types::Message;
+use messages::types::Planned;
 use records::types::Key;
 use records::types::Record;
 use refusals::or_else;
@@ -71,5 +71,8 @@ pub fn finish(finishing: Finishing, old: Record) -> Planned
     ensures { λ r. ⌜ r ≡ planned (plan old (Message.Finish finishing) [] []) ⌝ }
 {
     let next = moved(old, Record::FINISHED, finished_cents(finishing, old));
-    answer(finish_refusal(finishing, old), Deed::On(Change::Move(next)))
+    answer(
+        finish_refusal(finishing, old),
+        Deed::Keyed(Change::Advance(next)),
+    )
 }

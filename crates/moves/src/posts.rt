@@ -2,14 +2,14 @@
 ghost use mathlib.Core.Path.{_≡_};
 ghost use mathlib.Core.List.{[]};
 ghost use Rattle.refusals.specs.Refusals.{first};
-ghost use Rattle.plans.specs.Plan.{posted, postedFor, planRows, plan, planned};
-use plans::answer;
-use plans::stage_refusal;
-use plans::types::Change;
-use plans::types::Deed;
-use plans::types::Message;
-use plans::types::Planned;
-use plans::types::Posting;
+ghost use Rattle.messages.specs.Plan.{posted, postedFor, planRows, plan, planned};
+use messages::answer;
+use messages::stage_refusal;
+use messages::types::Change;
+use messages::types::Deed;
+use messages::types::Message;
+use messages::types::Planned;
+use messages::types::Posting;
 use records::types::Key;
 use records::types::Record;
 use refusals::or_else;
@@ -72,5 +72,8 @@ pub fn post(posting: Posting, old: Record) -> Planned
     ensures { λ r. ⌜ r ≡ planned (plan old (Message.Post posting) [] []) ⌝ }
 {
     let next = posted(old, posting, posted_cents(posting, old));
-    answer(post_refusal(posting, old), Deed::On(Change::Move(next)))
+    answer(
+        post_refusal(posting, old),
+        Deed::Keyed(Change::Advance(next)),
+    )
 }

@@ -2,13 +2,13 @@
 ghost use mathlib.Core.Path.{_≡_};
 ghost use mathlib.Core.List.{[]};
 ghost use Rattle.records.specs.Records.{blank};
-ghost use Rattle.plans.specs.Plan.{plan, planned};
+ghost use Rattle.messages.specs.Plan.{plan, planned};
 use amounts::Amount;
-use plans::answer;
-use plans::types::Deed;
-use plans::types::Funding;
-use plans::types::Message;
-use plans::types::Planned;
+use messages::answer;
+use messages::types::Deed;
+use messages::types::Funding;
+use messages::types::Message;
+use messages::types::Planned;
 use refusals::pick;
 
 pub fn support(funding: Funding) -> Planned
@@ -18,5 +18,5 @@ pub fn support(funding: Funding) -> Planned
         cents: funding.cents,
     };
     let number = pick(!amount.is_support(), 9, 0);
-    answer(number, Deed::Refund(funding.cents))
+    answer(number, Deed::SetSupport(funding.cents))
 }

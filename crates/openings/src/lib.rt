@@ -1,14 +1,14 @@
 // What an open and a revise ask of the record under their key, or refusals 2 to 12. `old` is that record, blank where the key is not open.
 ghost use mathlib.Core.Path.{_≡_};
-ghost use Rattle.plans.specs.Plan.{opened, plan, planned};
+ghost use Rattle.messages.specs.Plan.{opened, plan, planned};
 use bids::types::Bid;
-use plans::answer;
-use plans::stage_refusal;
-use plans::types::Change;
-use plans::types::Deed;
-use plans::types::Message;
-use plans::types::Opening;
-use plans::types::Planned;
+use messages::answer;
+use messages::stage_refusal;
+use messages::types::Change;
+use messages::types::Deed;
+use messages::types::Message;
+use messages::types::Opening;
+use messages::types::Planned;
 use records::types::Key;
 use records::types::Record;
 use refusals::or_else;
@@ -45,7 +45,7 @@ pub fn open(opening: Opening, old: Record, mwh: &[u64], prices: &[i64]) -> Plann
         opening.key.refusal(),
         or_else(bid.refusal(), pick(!old.is_free(), 10, 0)),
     );
-    answer(number, Deed::On(Change::Add(opened(opening, bid.bid()))))
+    answer(number, Deed::Keyed(Change::Add(opened(opening, bid.bid()))))
 }
 
 pub fn revise(opening: Opening, old: Record, mwh: &[u64], prices: &[i64]) -> Planned
@@ -64,6 +64,6 @@ pub fn revise(opening: Opening, old: Record, mwh: &[u64], prices: &[i64]) -> Pla
     );
     answer(
         number,
-        Deed::On(Change::Redo(old.requirement, opened(opening, bid.bid()))),
+        Deed::Keyed(Change::Rebid(old.requirement, opened(opening, bid.bid()))),
     )
 }

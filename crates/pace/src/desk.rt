@@ -1,10 +1,10 @@
 // What the desk sends: each group in turn goes through its life, and is open again at its end. An empty book has support 0, so that none is opened there.
-use plans::types::Billing;
-use plans::types::Finishing;
-use plans::types::Funding;
-use plans::types::Message;
-use plans::types::Opening;
-use plans::types::Posting;
+use messages::types::Billing;
+use messages::types::Finishing;
+use messages::types::Funding;
+use messages::types::Message;
+use messages::types::Opening;
+use messages::types::Posting;
 use records::types::Key;
 
 // The kinds in turn; an hour is given once.

@@ -2,12 +2,12 @@
 // to send then. `bench/speed` times it beside the reference, whose `pace` sends the same messages and prints the same line.
 mod desk;
 
-use book::types::Answer;
-use book::types::Book;
-use book::types::Outcome;
+use book::Answer;
+use book::Book;
+use book::Outcome;
 use libc::STDIN_FILENO;
 use libc::STDOUT_FILENO;
-use plans::types::Message;
+use messages::types::Message;
 
 const MODULUS: u64 = 2_147_483_647;
 

@@ -9,25 +9,25 @@ use lib.IntN.{ℤ, pos}
 use borrow.Author.Tests.{eqb-true}
 use Rattle.refusals.specs.Refusals.{first, refuse, accept, answered, judge, None, First, numbered}
 use Rattle.refusals.proofs.Laws.{none-applies, none-first, first-applies, first-is, numbered-append}
-use Rattle.plans.specs.declared.types.Message.{Message}
-use Rattle.plans.specs.declared.types.Deed.{Deed}
-use Rattle.plans.specs.Plan.{keyOf, planRows}
-use Rattle.plans.proofs.Fits.{plan-rows-numbered}
-use Rattle.weighing.proofs.Rows.{weigh-rows-numbered}
-use Rattle.weighing.specs.Weighing.{weighRows}
+use Rattle.messages.specs.declared.types.Message.{Message}
+use Rattle.messages.specs.declared.types.Deed.{Deed}
+use Rattle.messages.specs.Plan.{keyOf, planRows}
+use Rattle.messages.proofs.Fits.{plan-rows-numbered}
+use Rattle.credit.proofs.Rows.{credit-rows-numbered}
+use Rattle.credit.specs.Credit.{creditRows}
 use Rattle.book.specs.declared.types.Book.{Book}
 use Rattle.book.specs.declared.types.Outcome.{Outcome}
 use Rattle.book.specs.Books.{lookup, sound, held, owed, totals, heldShown, owedShown}
 use Rattle.endings.specs.Answers.{reply}
-use Rattle.book.specs.Step.{askedOf, table, verdict, outcome, step}
+use Rattle.book.specs.Step.{deedOf, table, verdict, outcome, step}
 use Rattle.promises.specs.Statements.{replied, Unchanged}
 
 module _ (b : Book) (m : Message) (ms : List ℕ) (ps : List ℤ) where
   pub table-numbered : numbered (table b m ms ps) ≡ true
   unfolding table numbered
   table-numbered =
-      numbered-append (planRows (lookup b (keyOf m)) m ms ps) (weighRows (totals b) (askedOf b m ms ps)) (plan-rows-numbered (lookup b (keyOf m)) m ms ps)
-      (weigh-rows-numbered (totals b) (askedOf b m ms ps))
+      numbered-append (planRows (lookup b (keyOf m)) m ms ps) (creditRows (totals b) (deedOf b m ms ps)) (plan-rows-numbered (lookup b (keyOf m)) m ms ps)
+      (credit-rows-numbered (totals b) (deedOf b m ms ps))
 
   number-by : (n : ℕ) (d : Deed) (t : Bool) → eqb n 0 ≡ t → reply (outcome b (cond t (accept d) (refuse n)) .answer) .number ≡ n
   unfolding outcome
@@ -37,7 +37,7 @@ module _ (b : Book) (m : Message) (ms : List ℕ) (ps : List ℤ) where
   -- the number that is answered is the first row of the table that applies; 0 is none
   pub number-is : replied b m ms ps .number ≡ first (table b m ms ps)
   unfolding step verdict judge answered
-  number-is = number-by (first (table b m ms ps)) (askedOf b m ms ps) (eqb (first (table b m ms ps)) 0) refl
+  number-is = number-by (first (table b m ms ps)) (deedOf b m ms ps) (eqb (first (table b m ms ps)) 0) refl
 
   -- 'accepted exactly when none of document 01's refusals applies'
   pub accepted-none : replied b m ms ps .number ≡ 0 → None (table b m ms ps)
@@ -65,7 +65,7 @@ module _ (b : Book) (m : Message) (ms : List ℕ) (ps : List ℤ) where
   unfolding step verdict judge answered
   unchanged h =
       let n = first (table b m ms ps) in
-      let u = unchanged-by n (askedOf b m ms ps) (eqb n 0) refl (λ z. h (number-is ∙ z)) (step b m ms ps) refl in
+      let u = unchanged-by n (deedOf b m ms ps) (eqb n 0) refl (λ z. h (number-is ∙ z)) (step b m ms ps) refl in
       record { book = u .0; requirement = u .1 .0; held = u .1 .1 .0; owed = u .1 .1 .1 }
 
 -- '(both 0 for 1)': a book that is not sound answers refusal 1 and 0 for both, a sound book its own sums

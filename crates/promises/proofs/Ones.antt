@@ -14,17 +14,17 @@ use Rattle.bids.specs.Rows.{pointRows, bidRows}
 use Rattle.deliveries.specs.Rows.{deliveryRows, billRows}
 use Rattle.records.specs.declared.types.Record.{Record}
 use Rattle.records.specs.Records.{keyRows}
-use Rattle.plans.specs.declared.types.Message.{Message}
-use Rattle.plans.specs.declared.types.Message.the-variants.{Open, Revise, Withdraw, Post, Finish, Bill, Pay, Support}
-use Rattle.plans.specs.declared.types.Change.the-variants.{Add, Redo, Move, Drop}
-use Rattle.plans.specs.declared.types.Deed.{Deed}
-use Rattle.plans.specs.declared.types.Deed.the-variants.{On, Refund}
-use Rattle.plans.specs.Plan.{keyOf, stageRows, planRows}
-use Rattle.weighing.specs.declared.types.Totals.{Totals}
-use Rattle.weighing.specs.Weighing.{weighRows}
+use Rattle.messages.specs.declared.types.Message.{Message}
+use Rattle.messages.specs.declared.types.Message.the-variants.{Open, Revise, Withdraw, Post, Finish, Bill, Pay, Support}
+use Rattle.messages.specs.declared.types.Change.the-variants.{Add, Rebid, Advance, Remove}
+use Rattle.messages.specs.declared.types.Deed.{Deed}
+use Rattle.messages.specs.declared.types.Deed.the-variants.{Keyed, SetSupport}
+use Rattle.messages.specs.Plan.{keyOf, stageRows, planRows}
+use Rattle.credit.specs.declared.types.Totals.{Totals}
+use Rattle.credit.specs.Credit.{creditRows}
 use Rattle.book.specs.declared.types.Book.{Book}
 use Rattle.book.specs.Books.{lookup, sound, totals}
-use Rattle.book.specs.Step.{askedOf, table}
+use Rattle.book.specs.Step.{deedOf, table}
 use Rattle.promises.specs.Statements.{replied}
 use Rattle.promises.proofs.Answers.{number-is}
 
@@ -60,19 +60,19 @@ plan-others old (Bill b) ms ps = refl
 plan-others old (Pay k) ms ps = refl
 plan-others old (Support s) ms ps = refl
 
-weigh-others : (t : Totals) (d : Deed) → others (weighRows t d) ≡ true
+credit-others : (t : Totals) (d : Deed) → others (creditRows t d) ≡ true
 unfolding others
-weigh-others t (On (Add r)) = refl
-weigh-others t (On (Redo was r)) = refl
-weigh-others t (On (Move r)) = refl
-weigh-others t (On (Drop k)) = refl
-weigh-others t (Refund support) = refl
+credit-others t (Keyed (Add r)) = refl
+credit-others t (Keyed (Rebid was r)) = refl
+credit-others t (Keyed (Advance r)) = refl
+credit-others t (Keyed (Remove k)) = refl
+credit-others t (SetSupport support) = refl
 
 -- a sound book never answers refusal 1
 pub one-unsound : (b : Book) (m : Message) (ms : List ℕ) (ps : List ℤ) → replied b m ms ps .number ≡ 1 → sound b ≡ true → ⊥
 unfolding table first
 one-unsound b m ms ps h s =
     let p = planRows (lookup b (keyOf m)) m ms ps in
-    let w = weighRows (totals b) (askedOf b m ms ps) in
-    other-first (p ++ w) (others-append p w (plan-others (lookup b (keyOf m)) m ms ps) (weigh-others (totals b) (askedOf b m ms ps)))
+    let w = creditRows (totals b) (deedOf b m ms ps) in
+    other-first (p ++ w) (others-append p w (plan-others (lookup b (keyOf m)) m ms ps) (credit-others (totals b) (deedOf b m ms ps)))
     (sym (ap (λ (t : Bool). cond (not t) 1 (first (p ++ w))) s) ∙ sym (number-is b m ms ps) ∙ h)

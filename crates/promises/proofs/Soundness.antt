@@ -11,15 +11,15 @@ use borrow.Author.Tests.{eqb-true, eqb-false}
 use Rattle.amounts.specs.Limits.{isSupport}
 use Rattle.amounts.specs.Lists.{sum, every}
 use Rattle.refusals.proofs.Laws.{and-left, and-right, and-both}
-use Rattle.plans.specs.declared.types.Message.{Message}
+use Rattle.messages.specs.declared.types.Message.{Message}
 use Rattle.records.specs.Records.{isBlank, isFree, okPlace}
-use Rattle.weighing.specs.Weighing.{suspended}
-use Rattle.weighing.specs.Weights.{owes}
+use Rattle.credit.specs.Credit.{suspended}
+use Rattle.credit.specs.Weights.{owes}
 use Rattle.book.specs.declared.types.Book.{Book}
 use Rattle.book.specs.Books.{sound, distinct, held, owed, totals, suspendedShown, noRecords, empty}
 use Rattle.book.specs.declared.types.Outcome.{Outcome}
 use Rattle.endings.specs.declared.types.Answer.the-variants.{Accepted, Refused}
-use Rattle.book.specs.Step.{fresh, step, askedOf}
+use Rattle.book.specs.Step.{fresh, step, deedOf}
 use Rattle.book.proofs.Kept.{done-sound}
 use Rattle.promises.specs.Statements.{replied}
 use Rattle.promises.specs.Runs.{Sent, after}
@@ -30,7 +30,7 @@ use Rattle.promises.proofs.Taken.{taken, fitting}
 kept-by : (b : Book) (m : Message) (ms : List ℕ) (ps : List ℤ) (t : Bool) → eqb (replied b m ms ps .number) 0 ≡ t → sound b ≡ true → sound (step b m ms ps .book) ≡ true
 kept-by b m ms ps true e h =
     let k = taken b m ms ps (eqb-true (replied b m ms ps .number) 0 e) in
-    subst (λ (x : Book). sound x ≡ true) (sym (k .next)) (done-sound b m (askedOf b m ms ps) h (fitting b m ms ps k) (k .weighed))
+    subst (λ (x : Book). sound x ≡ true) (sym (k .next)) (done-sound b m (deedOf b m ms ps) h (fitting b m ms ps k) (k .weighed))
 kept-by b m ms ps false e h =
     subst (λ (x : Book). sound x ≡ true) (sym (unchanged b m ms ps (eqb-false (replied b m ms ps .number) 0 e) .book)) h
 

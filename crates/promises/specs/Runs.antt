@@ -3,7 +3,7 @@
 use mathlib.Core.List.{List, [], _∷_}
 use Prim.Native.Nat.{ℕ}
 use lib.IntN.{ℤ}
-use Rattle.plans.specs.declared.types.Message.{Message}
+use Rattle.messages.specs.declared.types.Message.{Message}
 use Rattle.book.specs.declared.types.Book.{Book}
 use Rattle.book.specs.Step.{step}
 

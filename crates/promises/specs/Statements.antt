@@ -6,13 +6,13 @@ use mathlib.Core.List.{List}
 use Prim.Native.Nat.{ℕ}
 use lib.IntN.{ℤ, pos}
 use Rattle.refusals.specs.Refusals.{None}
-use Rattle.plans.specs.declared.types.Message.{Message}
-use Rattle.plans.specs.Plan.{keyOf, planRows}
-use Rattle.weighing.specs.Weighing.{weighRows, answeredBy}
+use Rattle.messages.specs.declared.types.Message.{Message}
+use Rattle.messages.specs.Plan.{keyOf, planRows}
+use Rattle.credit.specs.Credit.{creditRows, answeredBy}
 use Rattle.book.specs.declared.types.Book.{Book}
 use Rattle.book.specs.Books.{lookup, sound, held, owed, totals, heldShown, owedShown}
 use Rattle.endings.specs.Answers.{Reply, reply}
-use Rattle.book.specs.Step.{askedOf, done, step}
+use Rattle.book.specs.Step.{deedOf, done, step}
 
 module _ (b : Book) (m : Message) (ms : List ℕ) (ps : List ℤ) where
   -- the paper's number and values of the answer
@@ -30,8 +30,8 @@ module _ (b : Book) (m : Message) (ms : List ℕ) (ps : List ℤ) where
   pub record Taken : Type 0 where
     pub sane : sound b ≡ true
     pub planned : None (planRows (lookup b (keyOf m)) m ms ps)
-    pub weighed : None (weighRows (totals b) (askedOf b m ms ps))
-    pub next : step b m ms ps .book ≡ done b (askedOf b m ms ps)
-    pub requirement : replied .requirement ≡ answeredBy (askedOf b m ms ps)
+    pub weighed : None (creditRows (totals b) (deedOf b m ms ps))
+    pub next : step b m ms ps .book ≡ done b (deedOf b m ms ps)
+    pub requirement : replied .requirement ≡ answeredBy (deedOf b m ms ps)
     pub held : replied .held ≡ held (step b m ms ps .book)
     pub owed : replied .owed ≡ owed (step b m ms ps .book)

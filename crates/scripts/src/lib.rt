@@ -3,12 +3,12 @@
 ghost use Prim.Native.Nat.{_≤_};
 use lines::numbers::signed;
 use lines::numbers::whole;
-use plans::types::Billing;
-use plans::types::Finishing;
-use plans::types::Funding;
-use plans::types::Message;
-use plans::types::Opening;
-use plans::types::Posting;
+use messages::types::Billing;
+use messages::types::Finishing;
+use messages::types::Funding;
+use messages::types::Message;
+use messages::types::Opening;
+use messages::types::Posting;
 use records::types::Key;
 use records::types::Record;
 

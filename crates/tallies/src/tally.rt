@@ -10,8 +10,8 @@ use draws::digest::mix;
 use draws::digest::mix_cents;
 use draws::generator;
 use draws::generator::draw;
-use draws::messages;
-use draws::messages::Standing;
+use draws::turns;
+use draws::turns::Standing;
 use draws::values;
 use refusals::pick;
 
@@ -87,10 +87,10 @@ impl Tally {
     fn two_row(self, message: u64, number: u64, support: i64, above: bool) -> u64 {
         let full = self.open == 256;
         let short = support < self.held;
-        let opens = message == messages::OPEN;
+        let opens = message == turns::OPEN;
         match number {
             10 => pick(full, TWO + 8, 0),
-            12 => pick(above & (message == messages::POST), TWO + 9, 0),
+            12 => pick(above & (message == turns::POST), TWO + 9, 0),
             14 => pick(opens & full, TWO + 10, pick(opens & short, TWO + 11, 0)),
             15 => pick(short, TWO + 12, 0),
             _ => 0,
@@ -98,8 +98,8 @@ impl Tally {
     }
 
     fn edge_row(self, message: u64, reply: Reply, support: i64) -> u64 {
-        let opens = message == messages::OPEN;
-        let keeps = message <= messages::REVISE;
+        let opens = message == turns::OPEN;
+        let keeps = message <= turns::REVISE;
         let owes = 0 <= reply.owed;
         let owed = values::doubled(reply.owed);
         let one_short = self.again & (draw(self.seed, generator::TIGHT) / 64 % 3 == 0);
@@ -123,7 +123,7 @@ impl Tally {
     // Suspension is seen by a 14, and seen gone by an open or a revise that is accepted.
     fn suspension_row(self, message: u64, number: u64) -> u64 {
         let on = (number == 14) & !self.suspended;
-        let off = (number == 0) & (message <= messages::REVISE) & self.suspended;
+        let off = (number == 0) & (message <= turns::REVISE) & self.suspended;
         pick(on, SUSPENDED, pick(off, SUSPENDED + 1, 0))
     }
 
@@ -148,14 +148,14 @@ impl Tally {
         above: bool,
     ) -> Tally {
         let accepted = reply.number == 0;
-        let opens = accepted & (message == messages::OPEN);
-        let frees = accepted & ((message == messages::WITHDRAW) | (message == messages::PAY));
+        let opens = accepted & (message == turns::OPEN);
+        let frees = accepted & ((message == turns::WITHDRAW) | (message == turns::PAY));
         let kind_row = KINDS + message % 9 * 4 + kind % 5;
         let suspension = self.suspension_row(message, reply.number);
         rows::count_answer(counts, self.seed, message, reply.number);
         count(
             counts,
-            pick(accepted & (message < messages::SUPPORT), kind_row, 0),
+            pick(accepted & (message < turns::SUPPORT), kind_row, 0),
         );
         count(counts, self.two_row(message, reply.number, support, above));
         count(counts, self.edge_row(message, reply, support));

@@ -1,8 +1,8 @@
 // What the drill does with a book: it sends a message, tries it on a book set aside and changed, and digests all that a book holds.
 use asks::Ask;
-use book::types::Answer;
-use book::types::Book;
-use book::types::Outcome;
+use book::Answer;
+use book::Book;
+use book::Outcome;
 use draws::changes;
 use draws::digest::mix;
 use draws::digest::mix_cents;

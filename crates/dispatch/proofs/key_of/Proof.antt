@@ -2,7 +2,7 @@
 use borrow.Author.Needs.{needs}
 use mathlib.Core.Path.{_∙_, sym, ap}
 use Rattle.records.specs.declared.types.Record.{Record}
-use Rattle.plans.specs.Plan.{keyOf}
+use Rattle.messages.specs.Plan.{keyOf}
 use Rattle.dispatch.proofs.key_of.Statement.{statement}
 use Rattle.dispatch.proofs.key_of.Tie as tie
 

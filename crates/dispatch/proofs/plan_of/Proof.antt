@@ -1,8 +1,8 @@
 -- `plan_of`: by the message's case; one without points does not look at the lists.
 use borrow.Author.Needs.{needs}
 use mathlib.Core.Path.{_∙_, sym, ap}
-use Rattle.plans.specs.declared.types.Message.{Message}
-use Rattle.plans.specs.Plan.{plan, planned}
+use Rattle.messages.specs.declared.types.Message.{Message}
+use Rattle.messages.specs.Plan.{plan, planned}
 use Rattle.dispatch.proofs.plan_of.Statement.{statement}
 use Rattle.dispatch.proofs.plan_of.Tie as tie
 

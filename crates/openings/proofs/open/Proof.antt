@@ -2,9 +2,9 @@
 use mathlib.Core.Path.{ap}
 use Prim.Native.Nat.{ℕ}
 use Rattle.refusals.specs.Refusals.{judge, answered}
-use Rattle.plans.specs.declared.types.Message.the-variants.{Open}
-use Rattle.plans.specs.Plan.{bidFor, plan, asked, planned}
-use Rattle.plans.proofs.Tables.{open-table}
+use Rattle.messages.specs.declared.types.Message.the-variants.{Open}
+use Rattle.messages.specs.Plan.{bidFor, plan, deedFor, planned}
+use Rattle.messages.proofs.Tables.{open-table}
 use Rattle.openings.proofs.open.Statement.{statement}
 use Rattle.openings.proofs.open.Tie as tie
 
@@ -54,7 +54,7 @@ returns c =
       c .before .before .before .before .before .before .before .before .refusal .ensures,
       c .before .before .before .before .before .before .before .before .before .bid .ensures,
     )
-    (ap (λ (n : ℕ). planned (answered n (asked (a .old) (Open (a .opening)) (a .mwh .now) (a .prices .now)))) (open-table (a .old) (a .opening) (a .mwh .now) (a .prices .now)))
+    (ap (λ (n : ℕ). planned (answered n (deedFor (a .old) (Open (a .opening)) (a .mwh .now) (a .prices .now)))) (open-table (a .old) (a .opening) (a .mwh .now) (a .prices .now)))
 
 pub open-spec : {M : Type 1} → statement M
 open-spec =

@@ -3,9 +3,9 @@ use mathlib.Core.Path.{ap}
 use Prim.Native.Nat.{ℕ}
 use Rattle.amounts.proofs.Steps.{back}
 use Rattle.refusals.specs.Refusals.{judge, answered}
-use Rattle.plans.specs.declared.types.Message.the-variants.{Revise}
-use Rattle.plans.specs.Plan.{bidFor, plan, asked, planned}
-use Rattle.plans.proofs.Tables.{revise-table}
+use Rattle.messages.specs.declared.types.Message.the-variants.{Revise}
+use Rattle.messages.specs.Plan.{bidFor, plan, deedFor, planned}
+use Rattle.messages.proofs.Tables.{revise-table}
 use Rattle.openings.proofs.revise.Statement.{statement}
 use Rattle.openings.proofs.revise.Tie as tie
 
@@ -52,7 +52,7 @@ returns c =
       c .before .before .before .before .before .before .before .before .before .before .bid .ensures,
       back (a .old .requirement) (c .before .struct-told .given .1 .1 .1 .1 .1 .1 .1 .0 .1),
     )
-    (ap (λ (n : ℕ). planned (answered n (asked (a .old) (Revise (a .opening)) (a .mwh .now) (a .prices .now)))) (revise-table (a .old) (a .opening) (a .mwh .now) (a .prices .now)))
+    (ap (λ (n : ℕ). planned (answered n (deedFor (a .old) (Revise (a .opening)) (a .mwh .now) (a .prices .now)))) (revise-table (a .old) (a .opening) (a .mwh .now) (a .prices .now)))
 
 pub revise-spec : {M : Type 1} → statement M
 revise-spec =

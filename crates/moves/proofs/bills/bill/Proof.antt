@@ -1,7 +1,7 @@
 -- `bill` answers its table's number, or the record at stage 4.
 use Rattle.amounts.proofs.Steps.{back}
 use Rattle.refusals.specs.Refusals.{judge}
-use Rattle.plans.specs.Plan.{plan}
+use Rattle.messages.specs.Plan.{plan}
 use Rattle.moves.proofs.bills.bill.Statement.{statement}
 use Rattle.moves.proofs.bills.bill.Tie as tie
 

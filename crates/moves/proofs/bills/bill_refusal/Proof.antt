@@ -1,6 +1,6 @@
 -- `bill_refusal`: its table is the key's rows over the amount's over the stage's.
 use Rattle.amounts.proofs.Steps.{back}
-use Rattle.plans.proofs.Tables.{key-above, bill-above}
+use Rattle.messages.proofs.Tables.{key-above, bill-above}
 use Rattle.moves.proofs.bills.bill_refusal.Statement.{statement}
 use Rattle.moves.proofs.bills.bill_refusal.Tie as tie
 

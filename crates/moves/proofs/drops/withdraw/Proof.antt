@@ -1,7 +1,7 @@
 -- `withdraw`: its table is the key's rows over the stage's.
 use Rattle.refusals.specs.Refusals.{judge}
-use Rattle.plans.specs.Plan.{plan}
-use Rattle.plans.proofs.Tables.{key-above}
+use Rattle.messages.specs.Plan.{plan}
+use Rattle.messages.proofs.Tables.{key-above}
 use Rattle.moves.proofs.drops.withdraw.Statement.{statement}
 use Rattle.moves.proofs.drops.withdraw.Tie as tie
 

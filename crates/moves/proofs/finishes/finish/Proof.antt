@@ -1,7 +1,7 @@
 -- `finish` answers its table's number, or the record at stage 3.
 use Rattle.amounts.proofs.Steps.{back}
 use Rattle.refusals.specs.Refusals.{judge}
-use Rattle.plans.specs.Plan.{plan}
+use Rattle.messages.specs.Plan.{plan}
 use Rattle.moves.proofs.finishes.finish.Statement.{statement}
 use Rattle.moves.proofs.finishes.finish.Tie as tie
 

@@ -1,6 +1,6 @@
 -- `finish_refusal`: its table is the key's rows over the delivery's over the stage's.
 use Rattle.amounts.proofs.Steps.{back}
-use Rattle.plans.proofs.Tables.{key-above, delivery-above}
+use Rattle.messages.proofs.Tables.{key-above, delivery-above}
 use Rattle.moves.proofs.finishes.finish_refusal.Statement.{statement}
 use Rattle.moves.proofs.finishes.finish_refusal.Tie as tie
 

@@ -3,7 +3,7 @@ use mathlib.Core.Path.{ap, _∙_}
 use Rattle.amounts.proofs.Steps.{back}
 use Rattle.refusals.specs.Figures.{centsOf, figure}
 use Rattle.formulas.specs.Entries.{finishedVerdict}
-use Rattle.plans.specs.Plan.{finishedFor}
+use Rattle.messages.specs.Plan.{finishedFor}
 use Rattle.moves.proofs.finishes.finished_cents.Statement.{statement}
 use Rattle.moves.proofs.finishes.finished_cents.Tie as tie
 

@@ -1,7 +1,7 @@
 -- `post` answers its table's number, or the record at stage 2.
 use Rattle.amounts.proofs.Steps.{back}
 use Rattle.refusals.specs.Refusals.{judge}
-use Rattle.plans.specs.Plan.{plan}
+use Rattle.messages.specs.Plan.{plan}
 use Rattle.moves.proofs.posts.post.Statement.{statement}
 use Rattle.moves.proofs.posts.post.Tie as tie
 

@@ -1,6 +1,6 @@
 -- `post_refusal`: its table is the key's rows over the delivery's over the stage's, and row 13.
 use Rattle.amounts.proofs.Steps.{back}
-use Rattle.plans.proofs.Tables.{key-above, delivery-above, stage-above, last-row}
+use Rattle.messages.proofs.Tables.{key-above, delivery-above, stage-above, last-row}
 use Rattle.moves.proofs.posts.post_refusal.Statement.{statement}
 use Rattle.moves.proofs.posts.post_refusal.Tie as tie
 

@@ -3,7 +3,7 @@ use mathlib.Core.Path.{ap, _∙_}
 use Rattle.amounts.proofs.Steps.{back}
 use Rattle.refusals.specs.Figures.{centsOf, figure}
 use Rattle.formulas.specs.Entries.{postedVerdict}
-use Rattle.plans.specs.Plan.{postedFor}
+use Rattle.messages.specs.Plan.{postedFor}
 use Rattle.moves.proofs.posts.posted_cents.Statement.{statement}
 use Rattle.moves.proofs.posts.posted_cents.Tie as tie
 

@@ -4,8 +4,8 @@ use mathlib.Core.Path.{ap, _∙_}
 use Rattle.amounts.proofs.Steps.{back}
 use Rattle.amounts.specs.Limits.{isSupport}
 use Rattle.refusals.specs.Refusals.{first, judge, answered}
-use Rattle.plans.specs.declared.types.Deed.the-variants.{Refund}
-use Rattle.plans.specs.Plan.{plan, planned}
+use Rattle.messages.specs.declared.types.Deed.the-variants.{SetSupport}
+use Rattle.messages.specs.Plan.{plan, planned}
 use Rattle.moves.proofs.supports.support.Statement.{statement}
 use Rattle.moves.proofs.supports.support.Tie as tie
 
@@ -23,7 +23,7 @@ unfolding plan judge first
 returns c =
     let z = back (c .before .before .before .before .before .args .funding .cents) (c .before .before .before .before .struct-told .given .0 .1) in
     let number = c .before .before .pick .ensures ∙ ap (λ (t : Bool). cond (not t) 9 0) (c .before .before .before .is-support .ensures ∙ ap isSupport z) in
-    c .answer .ensures ∙ (λ i. planned (answered (number i) (Refund (z i))))
+    c .answer .ensures ∙ (λ i. planned (answered (number i) (SetSupport (z i))))
 
 pub support-spec : {M : Type 1} → statement M
 support-spec = tie.close (tie.spec is-support-requires pick-requires answer-requires returns)

@@ -12,19 +12,19 @@ use mir.Syntax.{w64}
 use mir.Val.{SFits}
 use mir.Facts.{toZ-ofZ}
 use Rattle.amounts.specs.Limits.{isSupport}
-use Rattle.apart.specs.Apart.{apart}
+use Rattle.distinct.specs.Numbers.{allDistinct}
 use Rattle.refusals.proofs.Laws.{and-left}
 use Rattle.records.specs.declared.types.Key.{Key}
 use Rattle.records.specs.declared.types.Record.{Record}
 use Rattle.records.specs.Records.{blank, at}
-use Rattle.plans.specs.declared.types.Message.{Message}
-use Rattle.plans.specs.Plan.{keyOf, plan, planned}
+use Rattle.messages.specs.declared.types.Message.{Message}
+use Rattle.messages.specs.Plan.{keyOf, plan, planned}
 use Rattle.book.specs.Places.{index}
 use Rattle.book.specs.Books.{Book, lookup, sound}
 use Rattle.book.specs.Step.{step}
-use Rattle.endings.specs.declared.types.Sight.{Sight}
-use Rattle.endings.specs.Endings.{sightOf, Apt, asVerdict, ended}
-use Rattle.seen.specs.declared.types.Seen.{Seen}
+use Rattle.endings.specs.declared.types.View.{View}
+use Rattle.endings.specs.Endings.{viewOf, Apt, asVerdict, ended}
+use Rattle.walk.specs.declared.types.Walk.{Walk}
 use Rattle.book.proofs.Codes.{sound-by}
 use Rattle.book.proofs.Walked.{Walked, begun, walked-more, all-ranged, all-coded, free-is, place-is, summed, looked-up}
 use Rattle.book.proofs.Written.{Sees, written, ends, apt}
@@ -32,10 +32,10 @@ use Rattle.book.proofs.types.Book.apply.Statement.{statement}
 use Rattle.book.proofs.types.Book.apply.Tie as tie
 
 abbrev Inv-loop : tie.InvT-loop
-Inv-loop message mwh prices next key codes₀ seen₀ i₀ codes seen i = Walked key (next .records) codes seen i
+Inv-loop message mwh prices next key codes₀ seen₀ i₀ codes walk i = Walked key (next .records) codes walk i
 
 abbrev μ-loop : tie.MeasureT-loop
-μ-loop message mwh prices next key codes₀ seen₀ i₀ codes seen i = i
+μ-loop message mwh prices next key codes₀ seen₀ i₀ codes walk i = i
 
 size : (g : tie.Start Inv-loop μ-loop) → length (g .args .self .records) ≡ 256
 size g = simp length-map at (g .good .0 .1 .1 .0 .1 .0 .1)
@@ -47,7 +47,7 @@ nothing-requires : tie.Need-nothing-requires Inv-loop μ-loop
 nothing-requires c κs = tt
 
 loop-holds : tie.Need-loop-holds Inv-loop μ-loop
-loop-holds c = subst (λ (x : Seen). Walked (c .before .key-of .result) (c .before .before .before .args .self .records) _ x 256) (sym (c .nothing .ensures)) (begun (c .before .key-of .result) (c .before .before .before .args .self .records) _ (size (c .before .before .before)) refl)
+loop-holds c = subst (λ (x : Walk). Walked (c .before .key-of .result) (c .before .before .before .args .self .records) _ x 256) (sym (c .nothing .ensures)) (begun (c .before .key-of .result) (c .before .before .before .args .self .records) _ (size (c .before .before .before)) refl)
 
 sub-i : tie.Need-sub-i Inv-loop μ-loop
 sub-i c = omega arith
@@ -79,8 +79,8 @@ loop-again c =
     let key = c .before .before .before .before .before .before .key-of .result in
     let rs = c .before .before .before .before .before .before .before .before .args .self .records in
     let codes = set (l .loop .codes) (l .loop .i - 1) (c .before .code .result) in
-    subst (λ (x : Seen). Walked key rs codes x (l .loop .i - 1)) (sym (c .with .ensures))
-    (walked-more key rs (l .loop .codes) (l .loop .seen) (l .loop .i) (c .before .code .result) (size (c .before .before .before .before .before .before .before .before)) (omega (arith, c .before .before .before .loop-test .taken)) (l .loop .inv) (c .before .code .ensures))
+    subst (λ (x : Walk). Walked key rs codes x (l .loop .i - 1)) (sym (c .with .ensures))
+    (walked-more key rs (l .loop .codes) (l .loop .walk) (l .loop .i) (c .before .code .result) (size (c .before .before .before .before .before .before .before .before)) (omega (arith, c .before .before .before .loop-test .taken)) (l .loop .inv) (c .before .code .ensures))
 
 mul-old : tie.Need-mul-old Inv-loop μ-loop
 mul-old c = omega arith
@@ -123,39 +123,39 @@ module _ (c : tie.After-plan-of Inv-loop μ-loop) where
   abbrev codes : List ℕ
   codes = passed .before .loop .codes
 
-  abbrev seen : Seen
-  seen = passed .before .loop .seen
+  abbrev walk : Walk
+  walk = passed .before .loop .walk
 
-  abbrev sight : Sight
-  sight = sightOf seen (b .support) codes (c .before .before .before .before .old .result)
+  abbrev view : View
+  view = viewOf walk (b .support) codes (c .before .before .before .before .old .result)
 
   few : length (b .records) ≡ 256
   few = size g
 
-  sight-so : c .before .of .result ≡ sight
-  sight-so =
+  view-so : c .before .of .result ≡ view
+  view-so =
       let h : SFits w64 (b .support) = search needs in
-      c .before .of .ensures ∙ ap (λ (z : ℤ). sightOf seen z codes (c .before .before .before .before .old .result)) (toZ-ofZ h)
+      c .before .of .ensures ∙ ap (λ (z : ℤ). viewOf walk z codes (c .before .before .before .before .old .result)) (toZ-ofZ h)
 
-  walked : Walked key (b .records) codes seen 0
+  walked : Walked key (b .records) codes walk 0
   walked =
       let z : passed .before .loop .i ≡ 0 = omega (arith, passed .loop-test .left) in
-      subst (λ (n : ℕ). Walked key (b .records) codes seen n) z (passed .before .loop .inv)
+      subst (λ (n : ℕ). Walked key (b .records) codes walk n) z (passed .before .loop .inv)
 
-  sound-so : sight .sound ≡ sound b
-  sound-so = sound-by b (seen .ranged) codes (all-ranged b key codes seen few walked) (all-coded b key codes seen few walked)
+  sound-so : view .sound ≡ sound b
+  sound-so = sound-by b (walk .ranged) codes (all-ranged b key codes walk few walked) (all-coded b key codes walk few walked)
 
-  sees : sound b ≡ true → Sees b (keyOf m) sight
+  sees : sound b ≡ true → Sees b (keyOf m) view
   sees h =
       let rs = b .records in
-      let ranged = and-left (seen .ranged) (isSupport (b .support)) (and-left (seen .ranged && isSupport (b .support)) (apart codes) (sound-so ∙ h)) in
+      let ranged = and-left (walk .ranged) (isSupport (b .support)) (and-left (walk .ranged && isSupport (b .support)) (allDistinct codes) (sound-so ∙ h)) in
       record {
-        sums = summed b key codes seen few walked ranged;
-        lowest = free-is b key codes seen few walked ranged;
-        place = place-is b key codes seen few walked ranged ∙ ap (λ (k : Key). index (at k) rs) (c .before .before .before .before .before .before .before .before .before .key-of .ensures);
+        sums = summed b key codes walk few walked ranged;
+        lowest = free-is b key codes walk few walked ranged;
+        place = place-is b key codes walk few walked ranged ∙ ap (λ (k : Key). index (at k) rs) (c .before .before .before .before .before .before .before .before .before .key-of .ensures);
         under =
             c .before .before .before .before .old .ensures
-            ∙ looked-up b key codes seen few walked ranged (getD rs (seen .at % 256) blank) (λ lt. let e : seen .at % 256 ≡ seen .at = omega arith in ap (λ (n : ℕ). getD rs n blank) e)
+            ∙ looked-up b key codes walk few walked ranged (getD rs (walk .at % 256) blank) (λ lt. let e : walk .at % 256 ≡ walk .at = omega arith in ap (λ (n : ℕ). getD rs n blank) e)
             ∙ ap (lookup b) (c .before .before .before .before .before .before .before .before .before .key-of .ensures);
       }
 
@@ -163,10 +163,10 @@ module _ (c : tie.After-plan-of Inv-loop μ-loop) where
   planned-so h = c .plan-of .ensures ∙ ap (λ (old : Record). planned (plan old m ms ps)) (sees h .under)
 
   apt-so : Apt (c .before .of .result) (c .plan-of .result)
-  apt-so = subst (λ (s : Sight). Apt s (c .plan-of .result)) (sym sight-so) (apt b m ms ps sight few refl sound-so sees (c .plan-of .result) planned-so)
+  apt-so = subst (λ (s : View). Apt s (c .plan-of .result)) (sym view-so) (apt b m ms ps view few refl sound-so sees (c .plan-of .result) planned-so)
 
   ends-so : written b (ended (c .before .of .result) (asVerdict (c .plan-of .result))) ≡ step b m ms ps
-  ends-so = ap (λ (s : Sight). written b (ended s (asVerdict (c .plan-of .result)))) sight-so ∙ ends b m ms ps sight few refl sound-so sees (c .plan-of .result) planned-so
+  ends-so = ap (λ (s : View). written b (ended s (asVerdict (c .plan-of .result)))) view-so ∙ ends b m ms ps view few refl sound-so sees (c .plan-of .result) planned-so
 
 ending-requires : tie.Need-ending-requires Inv-loop μ-loop
 ending-requires c κs = apt-so c

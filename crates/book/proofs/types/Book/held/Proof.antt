@@ -6,14 +6,14 @@ use Rattle.endings.specs.Answers.{reply}
 use Rattle.book.proofs.types.Book.held.Statement.{statement}
 use Rattle.book.proofs.types.Book.held.Tie as tie
 
-asked-requires : tie.Need-asked-requires
-asked-requires c κs = tt
+status-requires : tie.Need-status-requires
+status-requires c κs = tt
 
 held-requires : tie.Need-held-requires
 held-requires c κs = tt
 
 returns : tie.Need-returns
-returns c = back (c .held .result) (c .held .ok) ∙ c .held .ensures ∙ ap (λ (x : Answer). reply x .held) (c .before .asked .ensures)
+returns c = back (c .held .result) (c .held .ok) ∙ c .held .ensures ∙ ap (λ (x : Answer). reply x .held) (c .before .status .ensures)
 
 pub held-spec : {M : Type 1} → statement M
-held-spec = tie.close (tie.spec asked-requires held-requires returns)
+held-spec = tie.close (tie.spec status-requires held-requires returns)

@@ -8,15 +8,15 @@ use Rattle.book.proofs.Shown.{sound-shown}
 use Rattle.book.proofs.types.Book.is_sound.Statement.{statement}
 use Rattle.book.proofs.types.Book.is_sound.Tie as tie
 
-asked-requires : tie.Need-asked-requires
-asked-requires c κs = tt
+status-requires : tie.Need-status-requires
+status-requires c κs = tt
 
 is-unsound-requires : tie.Need-is-unsound-requires
 is-unsound-requires c κs = tt
 
 returns : tie.Need-returns
 returns c =
-    ap not (c .is-unsound .ensures ∙ ap (λ (x : Answer). eqb (reply x .number) 1) (c .before .asked .ensures)) ∙ sound-shown (c .before .before .args .self)
+    ap not (c .is-unsound .ensures ∙ ap (λ (x : Answer). eqb (reply x .number) 1) (c .before .status .ensures)) ∙ sound-shown (c .before .before .args .self)
 
 pub is-sound-spec : {M : Type 1} → statement M
-is-sound-spec = tie.close (tie.spec asked-requires is-unsound-requires returns)
+is-sound-spec = tie.close (tie.spec status-requires is-unsound-requires returns)

@@ -6,14 +6,14 @@ use Rattle.endings.specs.Answers.{reply}
 use Rattle.book.proofs.types.Book.net_owed.Statement.{statement}
 use Rattle.book.proofs.types.Book.net_owed.Tie as tie
 
-asked-requires : tie.Need-asked-requires
-asked-requires c κs = tt
+status-requires : tie.Need-status-requires
+status-requires c κs = tt
 
-owed-requires : tie.Need-owed-requires
-owed-requires c κs = tt
+net-owed-requires : tie.Need-net-owed-requires
+net-owed-requires c κs = tt
 
 returns : tie.Need-returns
-returns c = back (c .owed .result) (c .owed .ok) ∙ c .owed .ensures ∙ ap (λ (x : Answer). reply x .owed) (c .before .asked .ensures)
+returns c = back (c .net-owed .result) (c .net-owed .ok) ∙ c .net-owed .ensures ∙ ap (λ (x : Answer). reply x .owed) (c .before .status .ensures)
 
 pub net-owed-spec : {M : Type 1} → statement M
-net-owed-spec = tie.close (tie.spec asked-requires owed-requires returns)
+net-owed-spec = tie.close (tie.spec status-requires net-owed-requires returns)

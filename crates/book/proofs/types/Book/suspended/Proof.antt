@@ -8,8 +8,8 @@ use mir.Syntax.{w64}
 use mir.Val.{SFits, toZ, ofZ}
 use mir.Facts.{toZ-ofZ}
 use Rattle.amounts.proofs.Steps.{back}
-use Rattle.weighing.specs.Bounds.{Small}
-use Rattle.weighing.specs.Weighing.{suspended}
+use Rattle.credit.specs.Bounds.{TotalsBounded}
+use Rattle.credit.specs.Credit.{suspended}
 use Rattle.endings.specs.declared.types.Answer.{Answer}
 use Rattle.endings.specs.Answers.{reply}
 use Rattle.book.proofs.Shown.{shown, suspended-shown, small-shown}
@@ -19,37 +19,37 @@ use Rattle.book.proofs.types.Book.suspended.Tie as tie
 size : (g : tie.Start) → length (g .args .self .records) ≡ 256
 size g = simp length-map at (g .good .0 .1 .1 .0 .1 .0 .1)
 
-asked-requires : tie.Need-asked-requires
-asked-requires c κs = tt
+status-requires : tie.Need-status-requires
+status-requires c κs = tt
 
 held-requires : tie.Need-held-requires
 held-requires c κs = tt
 
-owed-requires : tie.Need-owed-requires
-owed-requires c κs = tt
+net-owed-requires : tie.Need-net-owed-requires
+net-owed-requires c κs = tt
 
 is-unsound-requires : tie.Need-is-unsound-requires
 is-unsound-requires c κs = tt
 
-totals-so : (c : tie.After-is-unsound) → record { support = toZ w64 (ofZ w64 (c .before .before .before .before .before .args .self .support)); held = toZ w64 (ofZ w64 (c .before .before .before .held .result)); owed = toZ w64 (ofZ w64 (c .before .before .owed .result)); full = false } ≡ shown (c .before .before .before .before .before .args .self)
+totals-so : (c : tie.After-is-unsound) → record { support = toZ w64 (ofZ w64 (c .before .before .before .before .before .args .self .support)); held = toZ w64 (ofZ w64 (c .before .before .before .held .result)); owed = toZ w64 (ofZ w64 (c .before .before .net-owed .result)); full = false } ≡ shown (c .before .before .before .before .before .args .self)
 totals-so c =
-    let asked = c .before .before .before .before .asked .ensures in
+    let status = c .before .before .before .before .status .ensures in
     let z : SFits w64 (c .before .before .before .before .before .args .self .support) = search needs in
     λ i. record {
       support = toZ-ofZ z i;
-      held = (back (c .before .before .before .held .result) (c .before .before .before .held .ok) ∙ c .before .before .before .held .ensures ∙ ap (λ (x : Answer). reply x .held) asked) i;
-      owed = (back (c .before .before .owed .result) (c .before .before .owed .ok) ∙ c .before .before .owed .ensures ∙ ap (λ (x : Answer). reply x .owed) asked) i;
+      held = (back (c .before .before .before .held .result) (c .before .before .before .held .ok) ∙ c .before .before .before .held .ensures ∙ ap (λ (x : Answer). reply x .held) status) i;
+      owed = (back (c .before .before .net-owed .result) (c .before .before .net-owed .ok) ∙ c .before .before .net-owed .ensures ∙ ap (λ (x : Answer). reply x .owed) status) i;
       full = false;
     }
 
 is-suspended-requires : tie.Need-is-suspended-requires
-is-suspended-requires c κs = subst Small (sym (totals-so c)) (small-shown (c .before .before .before .before .before .args .self) (size (c .before .before .before .before .before)))
+is-suspended-requires c κs = subst TotalsBounded (sym (totals-so c)) (small-shown (c .before .before .before .before .before .args .self) (size (c .before .before .before .before .before)))
 
 returns : tie.Need-returns
 returns c =
     let u = c .before in
-    (λ i. (u .is-unsound .ensures ∙ ap (λ (x : Answer). eqb (reply x .number) 1) (u .before .before .before .before .asked .ensures)) i || (c .is-suspended .ensures ∙ ap suspended (totals-so u)) i)
+    (λ i. (u .is-unsound .ensures ∙ ap (λ (x : Answer). eqb (reply x .number) 1) (u .before .before .before .before .status .ensures)) i || (c .is-suspended .ensures ∙ ap suspended (totals-so u)) i)
     ∙ suspended-shown (c .before .before .before .before .before .before .args .self)
 
 pub suspended-spec : {M : Type 1} → statement M
-suspended-spec = tie.close (tie.spec asked-requires held-requires owed-requires is-unsound-requires is-suspended-requires returns)
+suspended-spec = tie.close (tie.spec status-requires held-requires net-owed-requires is-unsound-requires is-suspended-requires returns)

@@ -1,0 +1,42 @@
+-- Document 01, 'Turned away, and why': refusals 14 to 16, which see a book's totals and what is asked for, and nothing else;
+-- and the requirement that an acceptance answers.
+-- Assumes nothing.
+use mathlib.Core.Bool.{Bool, _&&_}
+use mathlib.Core.List.{List, [], _∷_}
+use lib.IntN.{ℤ, pos, _+ℤ_, _-ℤ_, _*ℤ_}
+use lib.Signed.{ltZ, leZ}
+use Rattle.refusals.specs.Refusals.{Row, row, Verdict, refuse, accept, judge}
+use Rattle.messages.specs.declared.types.Change.the-variants.{Add, Rebid, Advance, Remove}
+use Rattle.messages.specs.declared.types.Deed.{Deed}
+use Rattle.messages.specs.declared.types.Deed.the-variants.{Keyed, SetSupport}
+pub use Rattle.credit.specs.declared.types.Totals.{Totals}
+
+-- 'The book is suspended exactly when 2 x net owed is at least the support'
+unfoldable pub suspended : Totals → Bool
+suspended t = leZ (t .support) (pos 2 *ℤ t .owed)
+
+-- 14 'open or revise while suspended', 15 'open with 256 records', 16 'open: held + requirement above support;
+-- revise: the new requirement is above the old and held afterwards is above support'
+abbrev pub creditRows : Totals → Deed → List Row
+creditRows t (Keyed (Add r)) = row 14 (suspended t) ∷ row 15 (t .full) ∷ row 16 (ltZ (t .support) (t .held +ℤ r .requirement)) ∷ []
+creditRows t (Keyed (Rebid was r)) =
+    row 14 (suspended t) ∷ row 16 (ltZ was (r .requirement) && ltZ (t .support) (t .held -ℤ was +ℤ r .requirement)) ∷ []
+creditRows t (Keyed (Advance r)) = []
+creditRows t (Keyed (Remove k)) = []
+creditRows t (SetSupport support) = []
+
+unfoldable pub creditVerdict : Totals → Deed → Verdict Deed
+creditVerdict t d = judge (creditRows t d) d
+
+-- 2 to 13 first: these are asked where those have passed
+unfoldable pub pass : Totals → Verdict Deed → Verdict Deed
+pass t (refuse n) = refuse n
+pass t (accept d) = creditVerdict t d
+
+-- 'the key's requirement (0 after withdraw, pay and support)'
+abbrev pub answeredBy : Deed → ℤ
+answeredBy (Keyed (Add r)) = r .requirement
+answeredBy (Keyed (Rebid was r)) = r .requirement
+answeredBy (Keyed (Advance r)) = r .requirement
+answeredBy (Keyed (Remove k)) = pos 0
+answeredBy (SetSupport support) = pos 0

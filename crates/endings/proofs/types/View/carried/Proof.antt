@@ -1,0 +1,104 @@
+-- `View::carried`: refused by the first row that applies to the totals, or carried out.
+use borrow.Author.Needs.{needs}
+use borrow.Author.Tests.{not-true, not-false, eqb-true, eqb-false}
+use mathlib.Core.Path.{_≡_, _∙_, sym, ap, subst}
+use Prim.Native.Nat.{ℕ}
+use lib.IntN.{ℤ}
+use mir.Syntax.{w64}
+use mir.Val.{SFits}
+use mir.Facts.{toZ-ofZ}
+use Rattle.refusals.specs.Refusals.{first, refuse, accept, judge}
+use Rattle.refusals.proofs.Laws.{answered-none, answered-some}
+use Rattle.messages.specs.declared.types.Change.the-variants.{Add, Rebid, Advance, Remove}
+use Rattle.messages.specs.declared.types.Deed.{Deed}
+use Rattle.messages.specs.declared.types.Deed.the-variants.{Keyed, SetSupport}
+use Rattle.records.proofs.Bounds.{requirement-bounded}
+use Rattle.credit.specs.declared.types.Totals.{Totals}
+use Rattle.credit.specs.Bounds.{DeedBounded}
+use Rattle.credit.specs.Credit.{creditRows, creditVerdict}
+use Rattle.endings.specs.Endings.{DeedSound, carriedOut, endingOf}
+use Rattle.endings.proofs.types.View.carried.Statement.{statement}
+use Rattle.endings.proofs.types.View.carried.Tie as tie
+
+light : (d : Deed) → DeedSound d → DeedBounded d
+light (Keyed (Add r)) f = requirement-bounded r f
+light (Keyed (Rebid was r)) f = (f .0, requirement-bounded r (f .1))
+light (Keyed (Advance r)) f = tt
+light (Keyed (Remove k)) f = tt
+light (SetSupport z) f = tt
+
+-- what the rows say, as a verdict
+module _ (t : Totals) (d : Deed) where
+  weighed-refused : (n : ℕ) → n ≡ first (creditRows t d) → (n ≡ 0 → ⊥) → creditVerdict t d ≡ refuse n
+  unfolding creditVerdict judge
+  weighed-refused n e h = rw (← e) (answered-some n d h)
+
+  weighed-accepted : (n : ℕ) → n ≡ first (creditRows t d) → n ≡ 0 → creditVerdict t d ≡ accept d
+  unfolding creditVerdict judge
+  weighed-accepted n e z = rw (← e, z) (answered-none d)
+
+refusal-requires : tie.Need-refusal-requires
+refusal-requires c κs = (c .before .pre .small, light (c .before .args .deed) (c .before .pre .fair))
+
+refused-requires : tie.Need-refused-requires
+refused-requires c κs = tt
+
+returns : tie.Need-returns
+unfolding endingOf
+returns c =
+    let a = c .before .before .before .before .args in
+    let n = c .before .before .refusal .result in
+    c .refused .ensures
+    ∙ ap (endingOf (a .self)) (sym (weighed-refused (a .self .totals) (a .deed) n (c .before .before .refusal .ensures) (eqb-false n 0 (not-true _ (c .before .if1 .taken)))))
+
+-- no row applies
+passed : (c : tie.Else1) → creditVerdict (c .before .before .before .args .self .totals) (c .before .before .before .args .deed) ≡ accept (c .before .before .before .args .deed)
+passed c =
+    let a = c .before .before .before .args in
+    let n = c .before .refusal .result in
+    weighed-accepted (a .self .totals) (a .deed) n (c .before .refusal .ensures) (eqb-true n 0 (not-false _ (c .if1 .left)))
+
+enum-known-deed : tie.Need-enum-known-deed
+enum-known-deed c = search needs
+
+changed-requires : tie.Need-changed-requires
+changed-requires c κs =
+    let s = c .before .before .before .before .before .before in
+    record { small = s .pre .small; old = s .pre .old; fair = subst DeedSound (c .before .deed .given .1) (s .pre .fair) }
+
+enum-known-deed-2 : tie.Need-enum-known-deed-2
+enum-known-deed-2 c = search needs
+
+funded-requires : tie.Need-funded-requires
+funded-requires c κs = tt
+
+returns-2 : tie.Need-returns-2
+unfolding endingOf
+returns-2 c =
+    let s = c .before .before .before .before .before .before .before .args .self in
+    c .changed .ensures ∙ ap (carriedOut s) (sym (c .before .before .deed .given .1)) ∙ ap (endingOf s) (sym (passed (c .before .before .before .before)))
+
+returns-3 : tie.Need-returns-3
+unfolding endingOf
+returns-3 c =
+    let s = c .before .before .before .before .before .before .before .args .self in
+    let k = c .before .before .deed2 .given in
+    let h : SFits w64 (k .0 .0) = search needs in
+    c .funded .ensures
+    ∙ ap (λ (z : ℤ). carriedOut s (SetSupport z)) (toZ-ofZ h)
+    ∙ ap (carriedOut s) (sym (k .1))
+    ∙ ap (endingOf s) (sym (passed (c .before .before .before .before)))
+
+pub carried-spec : {M : Type 1} → statement M
+carried-spec =
+    tie.close
+    (tie.spec
+    refusal-requires
+    refused-requires
+    returns
+    enum-known-deed
+    changed-requires
+    enum-known-deed-2
+    funded-requires
+    returns-2
+    returns-3)

@@ -1,0 +1,34 @@
+-- `View::of`: the three tests of soundness, and the sums as they were found.
+use borrow.Author.Needs.{needs}
+use mathlib.Core.Path.{_∙_, ap}
+use mathlib.Core.Bool.{_&&_}
+use lib.Dec.{eqb}
+use mir.Syntax.{w64}
+use mir.Val.{SFits}
+use mir.Facts.{toZ-ofZ}
+use Rattle.amounts.specs.Limits.{isSupport}
+use Rattle.endings.proofs.types.View.of.Statement.{statement}
+use Rattle.endings.proofs.types.View.of.Tie as tie
+
+is-support-requires : tie.Need-is-support-requires
+is-support-requires c κs = tt
+
+all-distinct-requires : tie.Need-all-distinct-requires
+all-distinct-requires c κs = tt
+
+returns : tie.Need-returns
+returns c =
+    let a = c .before .before .before .before .before .args in
+    let h : SFits w64 (a .walk .held) = search needs in
+    let o : SFits w64 (a .walk .owed) = search needs in
+    let support = toZ-ofZ (c .before .before .before .before .before .fits .support) in
+    λ i. record {
+      sound = a .walk .ranged && (c .before .before .before .before .is-support .ensures ∙ ap isSupport support) i && c .before .before .all-distinct .ensures i;
+      totals = record { support = support i; held = toZ-ofZ h i; owed = toZ-ofZ o i; full = eqb (a .walk .free) 256 };
+      free = a .walk .free;
+      at = a .walk .at;
+      old = a .old;
+    }
+
+pub of-spec : {M : Type 1} → statement M
+of-spec = tie.close (tie.spec is-support-requires all-distinct-requires returns)

@@ -1,0 +1,205 @@
+-- Each accepted message asks for a change that fits the record under its key, and leaves a record that keeps every clause of soundness.
+-- Assumes nothing.
+use mathlib.Core.Path.{_≡_, refl, subst}
+use mathlib.Core.Bool.{Bool, true, false, not, cond, _&&_, _||_}
+use mathlib.Core.List.{List}
+use Prim.Native.Nat.{ℕ}
+use lib.Dec.{leb, eqb, leb·zero}
+use lib.IntN.{ℤ}
+use borrow.Author.Tests.{eqb-true, not-false}
+use Rattle.amounts.specs.Limits.{isPrice, isNil, isBill, isSupport}
+use Rattle.refusals.specs.Refusals.{None, accept}
+use Rattle.refusals.proofs.Laws.{and-left, and-both, judge-accept}
+use Rattle.kinds.specs.Kinds.{differentialFits}
+use Rattle.bids.specs.Rows.{pendingFits, bidMwhFits}
+use Rattle.bids.specs.declared.types.Bid.{Bid}
+use Rattle.bids.proofs.Curves.{bid-bounded, mwh-bounded, fit-bid}
+use Rattle.formulas.proofs.StageLaws.{posted-bounded, finished-bounded}
+use Rattle.records.specs.declared.types.Key.{Key}
+use Rattle.records.specs.declared.types.Record.{Record}
+use Rattle.records.specs.Records.{isFree, implies, keyFits, stageFits, requirementFits, okRecord}
+use Rattle.messages.specs.Plan.{Message, Opening, Posting, Finishing, Deed, Open, Revise, Withdraw, Post, Finish, Bill, Pay, Support, Add, Rebid, Advance, Remove, Keyed, SetSupport, opened, posted, moved, bidFor, postedFor, finishedFor, keyOf, opens, deedFor, planRows, plan}
+use Rattle.records.proofs.Clauses.{sound, or-right}
+use Rattle.messages.proofs.Passed.{BidPassed, Stands, PostPassed, FinishPassed, open-passed, revise-passed, stage-passed, post-passed, finish-passed, bill-passed}
+use Rattle.messages.proofs.Formulas.{bid-passed-is, posted-passed-is, finished-passed-is}
+pub use Rattle.messages.proofs.Tables.{plan-rows-numbered}
+pub use Rattle.messages.proofs.Passed.{Under, under-blank, under-at}
+
+-- an open record of this key that keeps every clause
+pub record Fine (k : Key) (r : Record) : Type 0 where
+  pub own : r .key ≡ k
+  pub used : isFree r ≡ false
+  pub ok : okRecord r ≡ true
+
+-- ---- what each change is held to; `old` is the record under the message's key
+
+pub record Added (old : Record) (m : Message) (r : Record) : Type 0 where
+  pub begins : opens m ≡ true
+  pub free : isFree old ≡ true
+  pub fine : Fine (keyOf m) r
+  pub bid : r .stage ≡ 1
+
+pub record Redone (old : Record) (m : Message) (z : ℤ) (r : Record) : Type 0 where
+  pub later : opens m ≡ false
+  pub used : isFree old ≡ false
+  pub was : z ≡ old .requirement
+  pub stage : old .stage ≡ 1
+  pub fine : Fine (keyOf m) r
+  pub bid : r .stage ≡ 1
+
+pub record Moved (old : Record) (m : Message) (r : Record) : Type 0 where
+  pub later : opens m ≡ false
+  pub used : isFree old ≡ false
+  pub fine : Fine (keyOf m) r
+
+pub record Dropped (old : Record) (m : Message) (k : Key) : Type 0 where
+  pub later : opens m ≡ false
+  pub used : isFree old ≡ false
+  pub own : k ≡ keyOf m
+
+abbrev pub Fits : Record → Message → Deed → Type 0
+Fits old m (Keyed (Add r)) = Added old m r
+Fits old m (Keyed (Rebid z r)) = Redone old m z r
+Fits old m (Keyed (Advance r)) = Moved old m r
+Fits old m (Keyed (Remove k)) = Dropped old m k
+Fits old m (SetSupport z) = isSupport z ≡ true
+
+-- ---- each record that a message leaves keeps every clause
+
+and-true : (a : Bool) → a ≡ true → (a && true && true) ≡ true
+and-true a h = rw h
+
+exempt-only : (a b : Bool) → implies (a && b) b ≡ true
+exempt-only true true = refl
+exempt-only true false = refl
+exempt-only false b = refl
+
+opened-fine : (o : Opening) (bid : Bid) → keyFits (o .key) ≡ true → bidMwhFits (o .key .kind) (bid .mwh) ≡ true
+    → differentialFits (o .key .kind) (o .differential) ≡ true → pendingFits (o .key .kind) (bid .cents) ≡ true → Fine (o .key) (opened o bid)
+unfolding isFree
+opened-fine o bid key mwh differential pending =
+    record {
+      own = refl;
+      used = refl;
+      ok =
+          sound (opened o bid)
+          (record {
+            key = key;
+            stage = or-right (not (eqb (o .key .kind) 3)) true refl;
+            mwh = mwh;
+            schedule = rw (leb·zero (bid .mwh));
+            differential = differential;
+            dayAhead = or-right (eqb (o .key .kind) 1 && leb 2 1) true refl;
+            exempt = exempt-only (o .exempt) (eqb (o .key .kind) 1);
+            requirement = and-true (pendingFits (o .key .kind) (bid .cents)) pending;
+          });
+    }
+
+bid-fine : (o : Opening) (ms : List ℕ) (ps : List ℤ) → BidPassed o ms ps → Fine (o .key) (opened o (bidFor o ms ps))
+unfolding None
+bid-fine o ms ps h =
+    rw (bid-passed-is o ms ps h)
+    (opened-fine o _ (h .key) (mwh-bounded (o .key .kind) ms ps (o .differential) (h .rows))
+    (fit-bid (o .key .kind) ms ps (o .differential) (h .rows .1) .1)
+    (bid-bounded (o .key .kind) ms ps (o .differential) (o .exempt) (h .rows)))
+
+-- 'Post keeps the schedule and, for kind 1, the first price'
+kept-price : (t late : Bool) (new old : ℤ) → isPrice new ≡ true → (isPrice old && (t && late || isNil old)) ≡ true
+    → (isPrice (cond t new old) && (t && true || isNil (cond t new old))) ≡ true
+kept-price true late new old h k = rw h
+kept-price false late new old h k = k
+
+posted-fine : (old : Record) (p : Posting) → PostPassed old p → Fine (p .key) (posted old p (postedFor old p))
+unfolding isFree
+posted-fine old p h =
+    let c = h .stands .clauses in
+    record {
+      own = h .stands .own;
+      used = refl;
+      ok =
+          sound (posted old p (postedFor old p))
+          (record {
+            key = c .key;
+            stage = rw (h .kind);
+            mwh = c .mwh;
+            schedule = rw (h .schedule, h .kind);
+            differential = c .differential;
+            dayAhead = kept-price (eqb (old .key .kind) 1) (leb 2 (old .stage)) (p .price) (old .price) (h .price) (c .dayAhead);
+            exempt = c .exempt;
+            requirement =
+                rw (posted-passed-is old p h)
+                (and-true _ (posted-bounded (old .key .kind) (old .differential) (old .exempt) (p .schedule) (p .price) (p .second) (h .rows) (h .mwh)));
+          });
+    }
+
+-- a later stage keeps the schedule, and the price that only a posted import has
+late-schedule : (a first hourAhead nil : Bool) → (a && implies (first || hourAhead) nil) ≡ true → (a && implies hourAhead nil) ≡ true
+late-schedule a true true nil h = h
+late-schedule a true false nil h = rw (and-left a nil h)
+late-schedule a false hourAhead nil h = h
+
+late-price : (a import late nil : Bool) → (a && (import && late || nil)) ≡ true → (a && (import && true || nil)) ≡ true
+late-price a true late nil h = rw (and-left a (late || nil) h)
+late-price a false late nil h = h
+
+moved-fine : (k : Key) (old : Record) (stage : ℕ) (cents : ℤ) → Stands k old → stageFits (moved old stage cents) ≡ true → eqb stage 1 ≡ false → leb 2 stage ≡ true
+    → isFree (moved old stage cents) ≡ false → requirementFits (old .key .kind) stage cents ≡ true → Fine k (moved old stage cents)
+moved-fine k old stage cents s fits first late used requirement =
+    let c = s .clauses in
+    let schedule = late-schedule (leb (old .schedule) (old .mwh)) (eqb (old .stage) 1) (eqb (old .key .kind) 3) (eqb (old .schedule) 0) (c .schedule) in
+    let price = late-price (isPrice (old .price)) (eqb (old .key .kind) 1) (leb 2 (old .stage)) (isNil (old .price)) (c .dayAhead) in
+    record {
+      own = s .own;
+      used = used;
+      ok =
+          sound (moved old stage cents)
+          (record {
+            key = c .key;
+            stage = fits;
+            mwh = c .mwh;
+            schedule = rw first schedule;
+            differential = c .differential;
+            dayAhead = rw late price;
+            exempt = c .exempt;
+            requirement = requirement;
+          });
+    }
+
+finished-fine : (old : Record) (f : Finishing) → FinishPassed old f → Fine (f .key) (moved old 3 (finishedFor old f))
+unfolding isFree
+finished-fine old f h =
+    moved-fine (f .key) old 3 (finishedFor old f) (h .stands) (or-right (not (eqb (old .key .kind) 3)) true refl) refl refl refl
+    (rw (finished-passed-is old f h)
+    (and-both _ true (finished-bounded (old .key .kind) (old .exempt) (old .schedule) (old .price) (old .requirement) (f .actual) (f .price) (f .second) (h .rows)) refl))
+
+billed-fine : (k : Key) (old : Record) (cents : ℤ) → Stands k old → isBill cents ≡ true → Fine k (moved old 4 cents)
+unfolding isFree
+billed-fine k old cents s h = moved-fine k old 4 cents s (or-right (not (eqb (old .key .kind) 3)) true refl) refl refl refl h
+
+-- ---- each accepted message
+
+deed-fits : (old : Record) (m : Message) (ms : List ℕ) (ps : List ℤ) → Under (keyOf m) old → None (planRows old m ms ps) → Fits old m (deedFor old m ms ps)
+unfolding None
+deed-fits old (Open o) ms ps u h =
+    let a = open-passed old o ms ps h in record { begins = refl; free = a .1; fine = bid-fine o ms ps (a .0); bid = refl }
+deed-fits old (Revise o) ms ps u h =
+    let a = revise-passed old o ms ps u h in
+    record { later = refl; used = a .1 .stands .used; was = refl; stage = eqb-true (old .stage) 1 (a .1 .stage); fine = bid-fine o ms ps (a .0); bid = refl }
+deed-fits old (Withdraw k) ms ps u h =
+    record { later = refl; used = stage-passed k old (eqb (old .stage) 1) u h .stands .used; own = refl }
+deed-fits old (Post p) ms ps u h =
+    let a = post-passed old p ms ps u h in record { later = refl; used = a .stands .used; fine = posted-fine old p a }
+deed-fits old (Finish f) ms ps u h =
+    let a = finish-passed old f ms ps u h in record { later = refl; used = a .stands .used; fine = finished-fine old f a }
+deed-fits old (Bill b) ms ps u h =
+    let a = bill-passed (b .key) (b .cents) old u h in
+    record { later = refl; used = a .0 .stands .used; fine = billed-fine (b .key) old (b .cents) (a .0 .stands) (a .1) }
+deed-fits old (Pay k) ms ps u h =
+    record { later = refl; used = stage-passed k old (eqb (old .stage) 4) u h .stands .used; own = refl }
+deed-fits old (Support s) ms ps u h = not-false (isSupport (s .cents)) (h .0)
+
+pub fits : (old : Record) (m : Message) (ms : List ℕ) (ps : List ℤ) (d : Deed) → Under (keyOf m) old → plan old m ms ps ≡ accept d → Fits old m d
+unfolding plan
+fits old m ms ps d u h =
+    let a = judge-accept (planRows old m ms ps) (deedFor old m ms ps) d (plan-rows-numbered old m ms ps) h in
+    subst (Fits old m) (a .1) (deed-fits old m ms ps u (a .0))

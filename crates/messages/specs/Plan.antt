@@ -1,0 +1,151 @@
+-- Document 01, refusals 2 to 13 and what each message asks for. They see the message and the record under its key, and nothing else of the book.
+-- `old` is that record, blank where the key is not open.
+-- Assumes nothing.
+use mathlib.Core.Bool.{Bool, true, false, _&&_, not, cond}
+use mathlib.Core.List.{List, [], _∷_, _++_}
+use Prim.Native.Nat.{ℕ}
+use lib.Dec.{leb, eqb}
+use lib.IntN.{ℤ, pos}
+use Rattle.amounts.specs.Limits.{isSupport}
+use Rattle.refusals.specs.Refusals.{Row, row, Verdict, refuse, accept, judge}
+use Rattle.bids.specs.Rows.{bidRows}
+use Rattle.deliveries.specs.Rows.{deliveryRows, billRows}
+use Rattle.bids.specs.declared.types.Bid.{Bid}
+use Rattle.refusals.specs.Figures.{figure, centsOf}
+use Rattle.bids.specs.Entries.{bidAnswer, bidOf, bidVerdict}
+use Rattle.formulas.specs.Entries.{postedVerdict, finishedVerdict}
+pub use Rattle.messages.specs.declared.types.Message.{Message}
+pub use Rattle.messages.specs.declared.types.Opening.{Opening}
+pub use Rattle.messages.specs.declared.types.Posting.{Posting}
+pub use Rattle.messages.specs.declared.types.Finishing.{Finishing}
+pub use Rattle.messages.specs.declared.types.Change.{Change}
+pub use Rattle.messages.specs.declared.types.Deed.{Deed}
+pub use Rattle.messages.specs.declared.types.Planned.{Planned}
+pub use Rattle.messages.specs.declared.types.Message.the-variants.{Open, Revise, Withdraw, Post, Finish, Bill, Pay, Support}
+pub use Rattle.messages.specs.declared.types.Change.the-variants.{Add, Rebid, Advance, Remove}
+pub use Rattle.messages.specs.declared.types.Deed.the-variants.{Keyed, SetSupport}
+use Rattle.messages.specs.declared.types.Planned.the-variants.{Refused, Asks}
+use Rattle.records.specs.declared.types.Key.{Key}
+use Rattle.records.specs.declared.types.Record.{Record}
+use Rattle.records.specs.Records.{blank, isFree, keyRows}
+
+-- ---- the record of each stage. 01: 'Fields that a message doesn't set keep their values'
+
+-- 'Open makes stage 1'; 'The exempt mark is ignored for kinds 2 to 4'
+abbrev pub opened : Opening → Bid → Record
+opened o bid =
+    record {
+      key = o .key;
+      stage = 1;
+      mwh = bid .mwh;
+      differential = o .differential;
+      exempt = o .exempt && eqb (o .key .kind) 1;
+      schedule = 0;
+      price = pos 0;
+      requirement = bid .cents;
+    }
+
+-- 'Post keeps the schedule and, for kind 1, the first price'
+abbrev pub posted : Record → Posting → ℤ → Record
+posted r p cents =
+    record {
+      key = r .key;
+      stage = 2;
+      mwh = r .mwh;
+      differential = r .differential;
+      exempt = r .exempt;
+      schedule = p .schedule;
+      price = cond (eqb (r .key .kind) 1) (p .price) (r .price);
+      requirement = cents;
+    }
+
+-- finish and bill: 'actual and real-time values aren't kept'
+abbrev pub moved : Record → ℕ → ℤ → Record
+moved r stage cents =
+    record {
+      key = r .key;
+      stage = stage;
+      mwh = r .mwh;
+      differential = r .differential;
+      exempt = r .exempt;
+      schedule = r .schedule;
+      price = r .price;
+      requirement = cents;
+    }
+
+-- ---- the amounts, by the formula library's answers
+
+unfoldable pub bidFor : Opening → List ℕ → List ℤ → Bid
+bidFor o mwhs prices = bidOf (bidAnswer (bidVerdict (o .key .kind) mwhs prices (o .differential) (o .exempt)))
+
+unfoldable pub postedFor : Record → Posting → ℤ
+postedFor r p = centsOf (figure (postedVerdict (r .key .kind) (r .differential) (r .exempt) (p .schedule) (p .price) (p .second)))
+
+unfoldable pub finishedFor : Record → Finishing → ℤ
+finishedFor r f =
+    centsOf (figure (finishedVerdict (r .key .kind) (r .exempt) (r .schedule) (r .price) (r .requirement) (f .actual) (f .price) (f .second)))
+
+-- ---- what a message asks for
+
+-- the transaction that a message names; a support change names none
+abbrev pub keyOf : Message → Key
+keyOf (Open o) = o .key
+keyOf (Revise o) = o .key
+keyOf (Withdraw k) = k
+keyOf (Post p) = p .key
+keyOf (Finish f) = f .key
+keyOf (Bill b) = b .key
+keyOf (Pay k) = k
+keyOf (Support s) = blank .key
+
+-- whether it begins a transaction
+abbrev pub opens : Message → Bool
+opens (Open o) = true
+opens (Revise o) = false
+opens (Withdraw k) = false
+opens (Post p) = false
+opens (Finish f) = false
+opens (Bill b) = false
+opens (Pay k) = false
+opens (Support s) = false
+
+abbrev pub deedFor : Record → Message → List ℕ → List ℤ → Deed
+deedFor old (Open o) mwhs prices = Keyed (Add (opened o (bidFor o mwhs prices)))
+deedFor old (Revise o) mwhs prices = Keyed (Rebid (old .requirement) (opened o (bidFor o mwhs prices)))
+deedFor old (Withdraw k) mwhs prices = Keyed (Remove k)
+deedFor old (Post p) mwhs prices = Keyed (Advance (posted old p (postedFor old p)))
+deedFor old (Finish f) mwhs prices = Keyed (Advance (moved old 3 (finishedFor old f)))
+deedFor old (Bill b) mwhs prices = Keyed (Advance (moved old 4 (b .cents)))
+deedFor old (Pay k) mwhs prices = Keyed (Remove k)
+deedFor old (Support s) mwhs prices = SetSupport (s .cents)
+
+-- ---- refusals 2 to 13: 'only those that concern the message', in the paper's order
+
+-- 11 'other keyed messages: key not open', 12 'wrong stage'
+unfoldable pub stageRows : Record → Bool → List Row
+stageRows old right = row 11 (isFree old) ∷ row 12 (not right) ∷ []
+
+-- 'Finish goes from 2 to 3, for kind 3 from 1 to 3'
+abbrev pub beforeFinish : ℕ → ℕ
+beforeFinish kind = cond (eqb kind 3) 1 2
+
+abbrev pub planRows : Record → Message → List ℕ → List ℤ → List Row
+planRows old (Open o) mwhs prices = keyRows (o .key) ++ (bidRows (o .key .kind) mwhs prices (o .differential) ++ (row 10 (not (isFree old)) ∷ []))
+planRows old (Revise o) mwhs prices = keyRows (o .key) ++ (bidRows (o .key .kind) mwhs prices (o .differential) ++ stageRows old (eqb (old .stage) 1))
+planRows old (Withdraw k) mwhs prices = keyRows k ++ stageRows old (eqb (old .stage) 1)
+planRows old (Post p) mwhs prices =
+    keyRows (p .key) ++ (deliveryRows (p .key .kind) (p .schedule) (p .price) (p .second)
+    ++ (stageRows old (eqb (old .stage) 1 && not (eqb (p .key .kind) 3)) ++ (row 13 (not (leb (p .schedule) (old .mwh))) ∷ [])))
+planRows old (Finish f) mwhs prices =
+    keyRows (f .key) ++ (deliveryRows (f .key .kind) (f .actual) (f .price) (f .second) ++ stageRows old (eqb (old .stage) (beforeFinish (f .key .kind))))
+planRows old (Bill b) mwhs prices = keyRows (b .key) ++ (billRows (b .cents) ++ stageRows old (eqb (old .stage) 3))
+planRows old (Pay k) mwhs prices = keyRows k ++ stageRows old (eqb (old .stage) 4)
+planRows old (Support s) mwhs prices = row 9 (not (isSupport (s .cents))) ∷ []
+
+unfoldable pub plan : Record → Message → List ℕ → List ℤ → Verdict Deed
+plan old m mwhs prices = judge (planRows old m mwhs prices) (deedFor old m mwhs prices)
+
+-- the code's case of a verdict
+abbrev pub planned : Verdict Deed → Planned
+planned (refuse n) = Refused n
+planned (accept d) = Asks d

@@ -1,0 +1,67 @@
+// The eight messages, and what a message asks for.
+use records::types::Key;
+use records::types::Record;
+
+// Open and revise; the points stand beside it in two lent lists.
+pub struct Opening {
+    pub key: Key,
+    pub differential: u64,
+    pub exempt: bool,
+}
+
+// The prices are a wheel's at withdrawal, then at injection; other kinds have one price, and 0.
+pub struct Posting {
+    pub key: Key,
+    pub schedule: u64,
+    pub price: i64,
+    pub second: i64,
+}
+
+pub struct Finishing {
+    pub key: Key,
+    pub actual: u64,
+    pub price: i64,
+    pub second: i64,
+}
+
+pub struct Billing {
+    pub key: Key,
+    pub cents: i64,
+}
+
+pub struct Funding {
+    pub cents: i64,
+}
+
+// Each message is one case with its own set of values.
+pub enum Message {
+    Open(Opening),
+    Revise(Opening),
+    Withdraw(Key),
+    Post(Posting),
+    Finish(Finishing),
+    Bill(Billing),
+    Pay(Key),
+    Support(Funding),
+}
+
+// What a message on a transaction does to the places.
+pub enum Change {
+    Add(Record),
+    // A group replaced, with the requirement that it had.
+    Rebid(i64, Record),
+    Advance(Record),
+    Remove(Key),
+}
+
+// What an accepted message does to the book.
+pub enum Deed {
+    Keyed(Change),
+    SetSupport(i64),
+}
+
+// Refusals 2 to 13 of a message, or what it asks for.
+pub enum Planned {
+    Refused(u64),
+    Asks(Deed),
+}

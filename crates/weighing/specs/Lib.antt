@@ -1,3 +1,0 @@
-pub mod Weights
-pub mod Weighing
-pub mod Bounds
