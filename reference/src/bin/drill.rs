@@ -1,8 +1,8 @@
 //! The run that docs/DRILL.md writes down, over the reference; the proved
 //! drill must print the same, byte for byte.
 //!
-//! Standard input has three numbers: how many turns to run, the first turn
-//! that has a line, and the turn at which such lines end.
+//! Standard input has four numbers: how many turns to run, the first turn
+//! that has a line, the turn at which such lines end, and the seed.
 
 use std::fmt::Write as _;
 use std::io::{Read, Write as _};
@@ -107,6 +107,12 @@ mod rows {
 
 fn next(x: u64) -> u64 {
     x * MULTIPLIER % MODULUS
+}
+
+/// The seed of the first turn. From 0 every draw would be 0, so 1 stands for
+/// it, and for a seed that is not given.
+fn first_seed(given: u64) -> u64 {
+    (given % MODULUS).max(1)
 }
 
 /// The running digest.
@@ -930,15 +936,15 @@ fn main() {
         .expect("standard input is text");
     let mut numbers = input.split_whitespace().map(|word| {
         word.parse::<u64>()
-            .expect("standard input has three numbers")
+            .expect("standard input has four numbers")
     });
     let mut number = || numbers.next().unwrap_or(0);
-    let (turns, from, to) = (number(), number(), number());
+    let (turns, from, to, seed) = (number(), number(), number(), number());
 
     let (book, _) = Book::fresh(0);
     let mut run = Run {
         book,
-        seed: 1,
+        seed: first_seed(seed),
         digest: Digest(0),
         turn: 0,
         messages: 0,
