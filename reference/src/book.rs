@@ -399,8 +399,9 @@ impl Book {
     /// two lists are the points of open and revise; other messages pass over
     /// them. "Lent lists are only read."
     pub fn apply(&mut self, message: Message, mwh: &[u64], prices: &[i64]) -> Answer {
-        let Some(directory) = self.sound_directory() else {
-            return NOT_SOUND;
+        let directory = match self.sound_directory() {
+            Some(directory) => directory,
+            None => return NOT_SOUND,
         };
         let curve = Curve { mwh, prices };
         let outcome = match message {

@@ -56,7 +56,7 @@ pub fn import_test(three_months: Window, six_months: Window) -> Result<bool, Ref
         && six_months.covers(&three_months);
     require(agree, Refusal::WindowsContradict)?;
     let window = window_that_counts(three_months, six_months);
-    Ok(window.is_some_and(|window| window.loses_little()))
+    Ok(window.map_or(false, |window| window.loses_little()))
 }
 
 /// "If the three-month bids are 50 or more that window counts, else if the

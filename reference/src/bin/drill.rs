@@ -1,8 +1,8 @@
 //! The run that docs/DRILL.md writes down, over the reference; the proved
 //! drill must print the same, byte for byte.
 //!
-//! Standard input has three numbers: how many turns to run, the first turn
-//! that has a line, and the turn at which such lines end.
+//! Standard input has four numbers: how many turns to run, the first turn
+//! that has a line, the turn at which such lines end, and the seed.
 
 use std::fmt::Write as _;
 use std::io::{Read, Write as _};
@@ -18,7 +18,6 @@ const MODULUS: u64 = 2_147_483_647;
 const MULTIPLIER: u64 = 48_271;
 const MOST_SUPPORT: i64 = 1_000_000_000_000_000;
 const PLACES: usize = 256;
-const ROWS: usize = 300;
 
 const OPEN: u64 = 1;
 const REVISE: u64 = 2;
@@ -29,8 +28,91 @@ const BILL: u64 = 6;
 const PAY: u64 = 7;
 const SUPPORT: u64 = 8;
 
+/// The rows of the coverage table, by what is met there. Each part starts at
+/// a number of its own and has room for more.
+mod rows {
+    /// How many rows the table has; row 0 is none.
+    pub const COUNT: usize = 1_024;
+
+    /// Messages 1 to 15, answers 0 to 31.
+    const ANSWERS: u64 = 0;
+    const MESSAGES_BELOW: u64 = 16;
+    const NUMBERS_BELOW: u64 = 32;
+    /// Messages 1 to 15, kinds 1 to 7.
+    const KINDS: u64 = 512;
+    const KINDS_BELOW: u64 = 8;
+    /// Refusals 1 to 31.
+    const OVER_LATER: u64 = 640;
+    /// To 703.
+    const PAIRS: u64 = 672;
+    const FRESH: u64 = 704;
+    const TESTS: u64 = 708;
+    const LOOKS: u64 = 712;
+    const SUSPENSION: u64 = 716;
+    const PLACES: u64 = 720;
+    const EDGES: u64 = 728;
+    /// To 1,023: fields 0 to 127.
+    const CHANGES: u64 = 768;
+    const FIELDS_BELOW: u64 = 128;
+
+    pub const TEN_OVER_FIFTEEN: u64 = PAIRS;
+    pub const TWELVE_OVER_THIRTEEN: u64 = PAIRS + 1;
+    pub const FOURTEEN_OVER_FIFTEEN: u64 = PAIRS + 2;
+    pub const FOURTEEN_OVER_SIXTEEN: u64 = PAIRS + 3;
+    pub const FIFTEEN_OVER_SIXTEEN: u64 = PAIRS + 4;
+    pub const FRESH_ACCEPTED: u64 = FRESH;
+    pub const FRESH_REFUSED: u64 = FRESH + 1;
+    pub const EXEMPT: u64 = TESTS;
+    pub const NOT_EXEMPT: u64 = TESTS + 1;
+    pub const TEST_REFUSED: u64 = TESTS + 2;
+    pub const LOOK_ANSWERED: u64 = LOOKS;
+    pub const LOOK_REFUSED: u64 = LOOKS + 1;
+    pub const SUSPENSION_ON: u64 = SUSPENSION;
+    pub const SUSPENSION_OFF: u64 = SUSPENSION + 1;
+    pub const PLACE_USED_AGAIN: u64 = PLACES;
+    pub const ALL_FREE: u64 = PLACES + 1;
+    pub const ONE_FREE: u64 = PLACES + 2;
+    pub const NONE_FREE: u64 = PLACES + 3;
+    pub const OPEN_TO_SUPPORT: u64 = EDGES;
+    pub const OPEN_ONE_CENT_ABOVE: u64 = EDGES + 1;
+    pub const REVISE_TO_SUPPORT: u64 = EDGES + 2;
+    pub const REVISE_ONE_CENT_ABOVE: u64 = EDGES + 3;
+    pub const SUSPENDED_AT_TWICE_OWED: u64 = EDGES + 4;
+    pub const OPEN_ONE_CENT_BELOW_TWICE: u64 = EDGES + 5;
+
+    /// A message that was answered so; 0 is acceptance.
+    pub fn answer(message: u64, number: u64) -> u64 {
+        assert!(message < MESSAGES_BELOW && number < NUMBERS_BELOW);
+        ANSWERS + NUMBERS_BELOW * message + number
+    }
+
+    /// A message that was accepted for a kind.
+    pub fn kind(message: u64, kind: u64) -> u64 {
+        assert!(message < MESSAGES_BELOW && kind < KINDS_BELOW);
+        KINDS + KINDS_BELOW * message + kind
+    }
+
+    /// A refusal given where a later fault was drawn too.
+    pub fn over_later(number: u64) -> u64 {
+        assert!(number < NUMBERS_BELOW);
+        OVER_LATER + number
+    }
+
+    /// A changed field, where the book is still sound, or no longer.
+    pub fn change(field: u64, sound: bool) -> u64 {
+        assert!(field < FIELDS_BELOW);
+        CHANGES + 2 * field + u64::from(!sound)
+    }
+}
+
 fn next(x: u64) -> u64 {
     x * MULTIPLIER % MODULUS
+}
+
+/// The seed of the first turn. From 0 every draw would be 0, so 1 stands for
+/// it, and for a seed that is not given.
+fn first_seed(given: u64) -> u64 {
+    (given % MODULUS).max(1)
 }
 
 /// The running digest.
@@ -286,7 +368,7 @@ struct Run {
     suspended: bool,
     held: i64,
     net_owed: i64,
-    rows: [u64; ROWS],
+    rows: [u64; rows::COUNT],
 }
 
 impl Run {
@@ -411,8 +493,8 @@ impl Run {
 
     fn begin(&mut self, support: i64) {
         let (book, answer) = Book::fresh(support);
-        self.count(answer.number() == 0, 197);
-        self.count(answer.number() == 9, 198);
+        self.count(answer.number() == 0, rows::FRESH_ACCEPTED);
+        self.count(answer.number() == 9, rows::FRESH_REFUSED);
         self.answered(&answer);
         self.digest.mix_cents(book.support);
         self.book = book;
@@ -433,9 +515,9 @@ impl Run {
             Ok(exempt) => (0, exempt),
             Err(refusal) => (refusal.number(), false),
         };
-        self.count(exempt, 199);
-        self.count(number == 0 && !exempt, 200);
-        self.count(number == 17, 201);
+        self.count(exempt, rows::EXEMPT);
+        self.count(number == 0 && !exempt, rows::NOT_EXEMPT);
+        self.count(number == 17, rows::TEST_REFUSED);
         self.digest.mix(number);
         self.digest.mix(u64::from(exempt));
     }
@@ -453,8 +535,8 @@ impl Run {
             Ok(entry) => (0, entry.group, entry.differential),
             Err(refusal) => (refusal.number(), 0, 0),
         };
-        self.count(number == 0, 202);
-        self.count(number == 18, 203);
+        self.count(number == 0, rows::LOOK_ANSWERED);
+        self.count(number == 18, rows::LOOK_REFUSED);
         self.digest.mix(number);
         self.digest.mix(group);
         self.digest.mix(cents);
@@ -467,9 +549,7 @@ impl Run {
         let sound = aside.is_sound();
         let answer = aside.apply(ask.message(), mwh, prices);
         let refused = answer.number() == 1;
-        let row = 216 + field_of(change) * 2;
-        self.count(sound && !refused, row);
-        self.count(!sound && refused, row + 1);
+        self.count(sound != refused, rows::change(field_of(change), sound));
         if refused {
             self.count_answer(draws, ask.message, 1);
         }
@@ -490,9 +570,10 @@ impl Run {
 
     /// The rows of a message's answer, and of a later fault under it.
     fn count_answer(&mut self, draws: &Draws, message: u64, number: u64) {
-        self.count(true, message * 17 + number);
+        self.count(true, rows::answer(message, number));
         let faulty = (1..=7).contains(&number);
-        self.count(faulty && has_later(draws, message, number), 184 + number);
+        let over_later = faulty && has_later(draws, message, number);
+        self.count(over_later, rows::over_later(number));
     }
 
     /// Two refusals at once, of those that the book's state brings.
@@ -501,11 +582,11 @@ impl Run {
         let short = self.book.support < self.held;
         let opens = message == OPEN;
         let row = match number {
-            10 if full => 192,
-            12 if message == POST && above => 193,
-            14 if opens && full => 194,
-            14 if opens && short => 195,
-            15 if short => 196,
+            10 if full => rows::TEN_OVER_FIFTEEN,
+            12 if message == POST && above => rows::TWELVE_OVER_THIRTEEN,
+            14 if opens && full => rows::FOURTEEN_OVER_FIFTEEN,
+            14 if opens && short => rows::FOURTEEN_OVER_SIXTEEN,
+            15 if short => rows::FIFTEEN_OVER_SIXTEEN,
             _ => return,
         };
         self.count(true, row);
@@ -517,12 +598,12 @@ impl Run {
         let twice = doubled(answer.net_owed) as i64;
         let one_short = self.again && draws.tight / 64 % 3 == 0;
         let row = match (answer.number(), message) {
-            (0, OPEN) if owes && twice + 1 == support => 215,
-            (0, OPEN) if answer.held == support => 210,
-            (0, REVISE) if answer.held == support => 212,
-            (14, _) if owes && twice == support => 214,
-            (16, OPEN) if one_short => 211,
-            (16, REVISE) if one_short => 213,
+            (0, OPEN) if owes && twice + 1 == support => rows::OPEN_ONE_CENT_BELOW_TWICE,
+            (0, OPEN) if answer.held == support => rows::OPEN_TO_SUPPORT,
+            (0, REVISE) if answer.held == support => rows::REVISE_TO_SUPPORT,
+            (14, _) if owes && twice == support => rows::SUSPENDED_AT_TWICE_OWED,
+            (16, OPEN) if one_short => rows::OPEN_ONE_CENT_ABOVE,
+            (16, REVISE) if one_short => rows::REVISE_ONE_CENT_ABOVE,
             _ => return,
         };
         self.count(true, row);
@@ -531,8 +612,8 @@ impl Run {
     fn count_suspension(&mut self, message: u64, number: u64) {
         let on = number == 14 && !self.suspended;
         let off = number == 0 && message <= REVISE && self.suspended;
-        self.count(on, 204);
-        self.count(off, 205);
+        self.count(on, rows::SUSPENSION_ON);
+        self.count(off, rows::SUSPENSION_OFF);
         self.suspended = (self.suspended || on) && !off;
     }
 
@@ -540,10 +621,10 @@ impl Run {
         let opens = message == OPEN && number == 0;
         let frees = (message == WITHDRAW || message == PAY) && number == 0;
         match self.open {
-            0 => self.count(true, 207),
-            255 => self.count(true, 208),
-            256 => self.count(true, 209),
-            open => self.count(opens && open < self.most_open, 206),
+            0 => self.count(true, rows::ALL_FREE),
+            255 => self.count(true, rows::ONE_FREE),
+            256 => self.count(true, rows::NONE_FREE),
+            open => self.count(opens && open < self.most_open, rows::PLACE_USED_AGAIN),
         }
         self.open = self.open + u64::from(opens) - u64::from(frees);
         self.most_open = self.most_open.max(self.open);
@@ -572,10 +653,9 @@ impl Run {
         let above = draws.key_is_from_place(ask.message) && record.bid_mwh < ask.quantity;
         let number = answer.number();
         self.count_answer(&draws, ask.message, number);
-        self.count(
-            number == 0 && ask.message < SUPPORT,
-            150 + ask.message * 4 + ask.key.kind % 5,
-        );
+        if number == 0 && ask.message != SUPPORT {
+            self.count(true, rows::kind(ask.message, ask.key.kind));
+        }
         self.count_two(ask.message, number, above);
         self.count_edges(&draws, ask.message, &answer);
         self.answered(&answer);
@@ -856,15 +936,15 @@ fn main() {
         .expect("standard input is text");
     let mut numbers = input.split_whitespace().map(|word| {
         word.parse::<u64>()
-            .expect("standard input has three numbers")
+            .expect("standard input has four numbers")
     });
     let mut number = || numbers.next().unwrap_or(0);
-    let (turns, from, to) = (number(), number(), number());
+    let (turns, from, to, seed) = (number(), number(), number(), number());
 
     let (book, _) = Book::fresh(0);
     let mut run = Run {
         book,
-        seed: 1,
+        seed: first_seed(seed),
         digest: Digest(0),
         turn: 0,
         messages: 0,
@@ -874,7 +954,7 @@ fn main() {
         suspended: false,
         held: 0,
         net_owed: 0,
-        rows: [0; ROWS],
+        rows: [0; rows::COUNT],
     };
     for support in [-1, 0, MOST_SUPPORT + 1, MOST_SUPPORT] {
         run.begin(support);
