@@ -1,0 +1,13 @@
+pub mod Answers
+pub mod Taken
+pub mod Ones
+pub mod Soundness
+pub mod Requirements
+pub mod Top
+pub mod Room
+pub mod Deal
+pub mod DealtRuns
+pub mod Fresh
+pub mod Three
+pub mod Joining
+pub mod Example

@@ -1,0 +1,49 @@
+-- An accepted message: what its acceptance says, and what it does.
+-- Assumes nothing.
+use mathlib.Core.Path.{_≡_}
+use mathlib.Core.Bool.{true}
+use mathlib.Core.List.{List}
+use Prim.Native.Nat.{ℕ}
+use lib.IntN.{ℤ}
+use borrow.Author.Tests.{not-false}
+use Rattle.refusals.specs.Refusals.{None}
+use Rattle.refusals.proofs.Laws.{judge-none, none-split}
+use Rattle.messages.specs.declared.types.Message.{Message}
+use Rattle.messages.specs.Plan.{keyOf, planRows, plan}
+use Rattle.messages.proofs.Fits.{Fits, fits}
+use Rattle.credit.specs.Credit.{creditRows}
+use Rattle.book.specs.declared.types.Book.{Book}
+use Rattle.book.specs.Books.{lookup, sound, held, owed, totals}
+use Rattle.book.specs.Step.{deedOf, table, verdict, outcome, step}
+use Rattle.book.proofs.Kept.{lookup-under}
+use Rattle.demands.specs.One.{replied, Taken}
+use Rattle.demands.proofs.Answers.{accepted-none}
+
+module _ (b : Book) (m : Message) (ms : List ℕ) (ps : List ℤ) where
+  apart-of : None (table b m ms ps) → (sound b ≡ true) × (None (planRows (lookup b (keyOf m)) m ms ps) × None (creditRows (totals b) (deedOf b m ms ps)))
+  unfolding table None
+  apart-of n = (not-false (sound b) (n .0), none-split (planRows (lookup b (keyOf m)) m ms ps) (creditRows (totals b) (deedOf b m ms ps)) (n .1))
+
+  -- what the acceptance of a message says
+  pub taken : replied b m ms ps .number ≡ 0 → Taken b m ms ps
+  unfolding step verdict outcome deedOf
+  taken h =
+      let none = accepted-none b m ms ps h in
+      let parts = apart-of none in
+      let v = judge-none (table b m ms ps) (deedOf b m ms ps) none in
+      record {
+        sane = parts .0;
+        planned = parts .1 .0;
+        weighed = parts .1 .1;
+        next = rw v;
+        requirement = rw v;
+        held = rw v;
+        owed = rw v;
+      }
+
+  -- and what it asks for fits the record under its key
+  pub fitting : Taken b m ms ps → Fits (lookup b (keyOf m)) m (deedOf b m ms ps)
+  unfolding plan deedOf
+  fitting t =
+      fits (lookup b (keyOf m)) m ms ps (deedOf b m ms ps) (lookup-under b (keyOf m) (t .sane))
+      (judge-none (planRows (lookup b (keyOf m)) m ms ps) (deedOf b m ms ps) (t .planned))

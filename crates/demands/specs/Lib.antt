@@ -1,0 +1,4 @@
+pub mod Runs
+pub mod One
+pub mod Three
+pub mod Joining
