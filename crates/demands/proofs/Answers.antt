@@ -1,11 +1,11 @@
--- Demand 1: any message meets any book, sound or not, with a fixed answer.
+-- The number that is answered: accepted exactly when no row applies, else the first that does; and what a refusal gives back.
 -- Assumes nothing.
 use mathlib.Core.Path.{_≡_, refl, sym, _∙_, subst}
 use mathlib.Core.Bool.{Bool, true, false, cond}
 use mathlib.Core.List.{List}
 use Prim.Native.Nat.{ℕ}
 use lib.Dec.{eqb}
-use lib.IntN.{ℤ, pos}
+use lib.IntN.{ℤ}
 use borrow.Author.Tests.{eqb-true}
 use Rattle.refusals.specs.Refusals.{first, refuse, accept, answered, judge, None, First, numbered}
 use Rattle.refusals.proofs.Laws.{none-applies, none-first, first-applies, first-is, numbered-append}
@@ -16,11 +16,11 @@ use Rattle.messages.proofs.Fits.{plan-rows-numbered}
 use Rattle.credit.proofs.Rows.{credit-rows-numbered}
 use Rattle.credit.specs.Credit.{creditRows}
 use Rattle.book.specs.declared.types.Book.{Book}
-use Rattle.book.specs.declared.types.Outcome.{Outcome}
-use Rattle.book.specs.Books.{lookup, sound, held, owed, totals, heldShown, owedShown}
+use Rattle.book.specs.Books.{lookup, totals, heldShown, owedShown}
 use Rattle.endings.specs.Answers.{reply}
 use Rattle.book.specs.Step.{deedOf, table, verdict, outcome, step}
-use Rattle.demands.specs.One.{replied, Unchanged}
+use Rattle.demands.specs.Runs.{nextBook, replied}
+use Rattle.demands.specs.One.{Refusal}
 
 module _ (b : Book) (m : Message) (ms : List ℕ) (ps : List ℤ) where
   pub table-numbered : numbered (table b m ms ps) ≡ true
@@ -54,29 +54,13 @@ module _ (b : Book) (m : Message) (ms : List ℕ) (ps : List ℤ) where
   pub first-refused : (n : ℕ) → First n (table b m ms ps) → replied b m ms ps .number ≡ n
   first-refused n h = number-is ∙ first-is n (table b m ms ps) h
 
-  unchanged-by : (n : ℕ) (d : Deed) (t : Bool) → eqb n 0 ≡ t → (n ≡ 0 → ⊥) → (o : Outcome) → o ≡ outcome b (cond t (accept d) (refuse n))
-      → (o .book ≡ b) × ((reply (o .answer) .requirement ≡ pos 0) × ((reply (o .answer) .held ≡ heldShown b) × (reply (o .answer) .owed ≡ owedShown b)))
-  unfolding outcome
-  unchanged-by n d true e h o q = absurd (h (eqb-true n 0 e))
-  unchanged-by n d false e h o q = rw q (refl, (refl, (refl, refl)))
+  unchanged-by : (n : ℕ) (d : Deed) (t : Bool) → eqb n 0 ≡ t → (n ≡ 0 → ⊥)
+      → let o = outcome b (cond t (accept d) (refuse n)) in Refusal b (o .book) (reply (o .answer))
+  unfolding outcome heldShown owedShown
+  unchanged-by n d true e h = absurd (h (eqb-true n 0 e))
+  unchanged-by n d false e h = record { book = refl; requirement = refl; held = refl; owed = refl }
 
   -- 'A refusal gives back the same book'
-  pub unchanged : (replied b m ms ps .number ≡ 0 → ⊥) → Unchanged b m ms ps
+  pub unchanged : (replied b m ms ps .number ≡ 0 → ⊥) → Refusal b (nextBook b m ms ps) (replied b m ms ps)
   unfolding step verdict judge answered
-  unchanged h =
-      let n = first (table b m ms ps) in
-      let u = unchanged-by n (deedOf b m ms ps) (eqb n 0) refl (λ z. h (number-is ∙ z)) (step b m ms ps) refl in
-      record { book = u .0; requirement = u .1 .0; held = u .1 .1 .0; owed = u .1 .1 .1 }
-
--- '(both 0 for 1)': a book that is not sound answers refusal 1 and 0 for both, a sound book its own sums
-pub shown-unsound : (b : Book) → sound b ≡ false → (heldShown b ≡ pos 0) × (owedShown b ≡ pos 0)
-unfolding heldShown owedShown
-shown-unsound b h = rw h (refl, refl)
-
-pub shown-sound : (b : Book) → sound b ≡ true → (heldShown b ≡ held b) × (owedShown b ≡ owed b)
-unfolding heldShown owedShown
-shown-sound b h = rw h (refl, refl)
-
-pub unsound-one : (b : Book) (m : Message) (ms : List ℕ) (ps : List ℤ) → sound b ≡ false → replied b m ms ps .number ≡ 1
-unfolding table first
-unsound-one b m ms ps h = number-is b m ms ps ∙ rw h
+  unchanged h = let n = first (table b m ms ps) in unchanged-by n (deedOf b m ms ps) (eqb n 0) refl (λ z. h (number-is ∙ z))

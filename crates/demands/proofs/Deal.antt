@@ -30,12 +30,13 @@ use Rattle.book.specs.declared.types.Book.{Book}
 use Rattle.book.specs.Places.{find, orElseBlank}
 use Rattle.book.specs.Books.{lookup, sound, full, totals}
 use Rattle.endings.specs.Answers.{reply}
-use Rattle.book.specs.Step.{deedOf, table, change, rebook, done, step}
+use Rattle.book.specs.Step.{deedOf, table, done, step}
 use Rattle.book.proofs.Effect.{Effect, weight, mark}
 use Rattle.book.proofs.Kept.{lookup-none, effect, leaves, done-sound}
 use Rattle.demands.proofs.Answers.{none-accepted}
-use Rattle.demands.proofs.Taken.{taken, fitting}
-use Rattle.demands.specs.Three.{sentTo, requirementOf, Dealt, keyed, owner, Follows, topSupport}
+use Rattle.demands.proofs.Accepted.{taken, fitting}
+use Rattle.demands.specs.Runs.{sentTo}
+use Rattle.demands.specs.Three.{requirementOf, Dealt, keyed, owner, Follows, topSupport}
 use Rattle.demands.proofs.Top.{weighed-top}
 use Rattle.demands.proofs.Room.{isUsed, room-kept}
 
@@ -51,7 +52,7 @@ pub record Deal (o : Key → Bool) (W : Book) (D : Bool → Book) : Type 0 where
   pub size : length (W .records) ≡ 256
   pub sizes : (s : Bool) → length (D s .records) ≡ 256
   pub sane : (s : Bool) → sound (D s) ≡ true
-  pub top : (s : Bool) → D s .support ≡ pos topSupport
+  pub top : (s : Bool) → totals (D s) .support ≡ pos topSupport
 
 -- the two books with one of them replaced
 abbrev pub put : (Bool → Book) → Bool → Book → Bool → Book
@@ -142,13 +143,13 @@ module _ (o : Key → Bool) (W : Book) (D : Bool → Book) (I : Deal o W D) wher
   module _ (o′ : Key → Bool) (s : Bool) (k : Key) (c : Change)
       (mine : o′ k ≡ s) (others : (l : Key) → sameKey k l ≡ false → o′ l ≡ o l)
       (own : under k (D s) ≡ under k W) (other : under k (D (not s)) ≡ none)
-      (EW : Effect k (W .records) (change c (W .records)) (leaves c)) (ES : Effect k (D s .records) (change c (D s .records)) (leaves c))
-      (sane : sound (rebook (D s) (D s .support) (change c (D s .records))) ≡ true) where
+      (EW : Effect k (W .records) (done W (Keyed c) .records) (leaves c)) (ES : Effect k (D s .records) (done (D s) (Keyed c) .records) (leaves c))
+      (sane : sound (done (D s) (Keyed c)) ≡ true) (funds : totals (done (D s) (Keyed c)) .support ≡ totals (D s) .support) where
     abbrev W′ : Book
-    W′ = rebook W (W .support) (change c (W .records))
+    W′ = done W (Keyed c)
 
     abbrev A : Book
-    A = rebook (D s) (D s .support) (change c (D s .records))
+    A = done (D s) (Keyed c)
 
     at-key : (s t : Bool) (D : Bool → Book) (A : Book) (n : Option Record) → under k A ≡ n → under k (D (not s)) ≡ none → under k (put D s A t) ≡ cond (Bool·beq t s) n none
     at-key true true D A n h e = h
@@ -200,7 +201,7 @@ module _ (o : Key → Bool) (W : Book) (D : Bool → Book) (I : Deal o W D) wher
           size = EW .size ∙ I .size;
           sizes = put-each (λ b. length (b .records) ≡ 256) D s A (ES .size ∙ I .sizes s) (I .sizes);
           sane = put-each (λ b. sound b ≡ true) D s A sane (I .sane);
-          top = put-each (λ b. b .support ≡ pos topSupport) D s A (I .top s) (I .top);
+          top = put-each (λ b. totals b .support ≡ pos topSupport) D s A (funds ∙ I .top s) (I .top);
         }
 
 -- ---- one message
@@ -229,7 +230,7 @@ pub record Went (o : Key → Bool) (W : Book) (D : Bool → Book) (x : Dealt) : 
 
 pub deal-step : (o : Key → Bool) (W : Book) (D : Bool → Book) → Deal o W D → (x : Dealt) → keyed (x .sent .message) ≡ true → Follows o x
     → reply (sentTo W (x .sent) .answer) .number ≡ 0 → Went o W D x
-unfolding Follows owner deedOf lookup done
+unfolding Follows owner deedOf lookup done totals
 deal-step o W D I x keys follows accepted =
     let s = x .side in
     let m = x .sent .message in
@@ -260,5 +261,6 @@ deal-step o W D I x keys follows accepted =
           (other-find o W D I s m (follows keys) c fits)
           (effect W m c (whole .sane) fits weighed)
           (effect (D s) m c (I .sane s) fits′ weighed′)
-          (done-sound (D s) m (Keyed c) (I .sane s) fits′ weighed′));
+          (done-sound (D s) m (Keyed c) (I .sane s) fits′ weighed′)
+          refl);
     }

@@ -15,7 +15,7 @@ use Rattle.records.specs.declared.types.Record.{Record}
 use Rattle.records.specs.Records.{blank, at}
 use Rattle.records.proofs.Keys.{at-blank}
 use Rattle.book.specs.declared.types.Book.{Book}
-use Rattle.book.specs.Books.{noRecords, empty}
+use Rattle.book.specs.Books.{totals, noRecords, empty}
 use Rattle.book.specs.Step.{fresh}
 use Rattle.book.proofs.Places.{count-find}
 use Rattle.demands.proofs.Soundness.{empty-sound}
@@ -54,6 +54,7 @@ nones true x y h k = h ∙ sym k
 nones false x y h k = h
 
 empty-deal : (o : Key → Bool) (z : ℤ) → Deal o (empty z) (λ s. empty (pos topSupport))
+unfolding totals
 empty-deal o z =
     record {
       finds = λ s k. nones (Bool·beq s (o k)) (under k (empty (pos topSupport))) (under k (empty z)) (empty-find (pos topSupport) k) (empty-find z k);

@@ -22,12 +22,12 @@ use Rattle.messages.specs.Plan.{planRows, plan}
 use Rattle.messages.proofs.Fits.{fits}
 use Rattle.book.specs.declared.types.Book.{Book}
 use Rattle.book.specs.Places.{find, missing, orElseBlank}
-use Rattle.book.specs.Books.{lookup, full, noRecords, empty}
+use Rattle.book.specs.Books.{lookup, full, totals, noRecords, empty}
 use Rattle.endings.specs.Answers.{reply}
 use Rattle.book.specs.Step.{deedOf, fresh, step}
 use Rattle.book.proofs.Kept.{lookup-under}
-use Rattle.demands.proofs.Taken.{taken}
-use Rattle.demands.proofs.Requirements.{open-sets}
+use Rattle.demands.proofs.Accepted.{taken}
+use Rattle.demands.proofs.Requirements.{sets}
 use Rattle.demands.proofs.Soundness.{empty-sound}
 use Rattle.demands.specs.Three.{topSupport}
 use Rattle.demands.specs.Joining.{Opens, Joins}
@@ -54,7 +54,7 @@ module _ (o : Opening) (m₁ m₂ : List ℕ) (p₁ p₂ : List ℤ) (export : i
       joining (o .key .kind) m₁ m₂ p₁ p₂ (o .differential) (o .exempt) export (rows b₁ o m₁ p₁ (first .accepted) .1) (rows b₂ o m₂ p₂ (second .accepted) .1) few
 
   set : {b : Book} {ms : List ℕ} {ps : List ℤ} {r : ℤ} → Opens b o ms ps r → r ≡ bidWith o ms ps
-  set {b} {ms} {ps} {r} h = sym (h .sets) ∙ ap (λ (x : Record). x .requirement) (open-sets b ms ps o (h .accepted))
+  set {b} {ms} {ps} {r} h = sym (h .sets) ∙ ap (λ (x : Record). x .requirement) (sets b ms ps (Open o) (h .accepted))
 
   -- in whatever books the four are opened
   pub joining-open : {b c : Book} {r s : ℤ} → Opens b o (m₁ ++ m₂) (p₁ ++ p₂) r → Opens c o (m₂ ++ m₁) (p₂ ++ p₁) s → Joins r₁ r₂ r s
@@ -88,7 +88,7 @@ module _ (o : Opening) (m₁ m₂ : List ℕ) (p₁ p₂ : List ℤ) (export : i
   room = refl
 
   top-takes : reply (step top (Open o) (m₁ ++ m₂) (p₁ ++ p₂) .answer) .number ≡ 0
-  unfolding plan deedOf
+  unfolding plan deedOf totals
   top-takes =
       let d = deedOf top (Open o) (m₁ ++ m₂) (p₁ ++ p₂) in
       let sane = empty-sound (pos topSupport) refl in
@@ -98,4 +98,4 @@ module _ (o : Opening) (m₁ m₂ : List ℕ) (p₁ p₂ : List ℤ) (export : i
   pub joined-opens : Opens (fresh (pos topSupport) .book) o (m₁ ++ m₂) (p₁ ++ p₂) (bidWith o (m₁ ++ m₂) (p₁ ++ p₂))
   joined-opens =
       subst (λ (b : Book). Opens b o (m₁ ++ m₂) (p₁ ++ p₂) (bidWith o (m₁ ++ m₂) (p₁ ++ p₂))) (sym fresh-top)
-      (record { accepted = top-takes; sets = ap (λ (x : Record). x .requirement) (open-sets top (m₁ ++ m₂) (p₁ ++ p₂) o top-takes) })
+      (record { accepted = top-takes; sets = ap (λ (x : Record). x .requirement) (sets top (m₁ ++ m₂) (p₁ ++ p₂) (Open o) top-takes) })

@@ -1,8 +1,10 @@
 pub mod Answers
-pub mod Taken
-pub mod Ones
+pub mod Unsound
+pub mod Accepted
 pub mod Soundness
+pub mod One
 pub mod Requirements
+pub mod Two
 pub mod Top
 pub mod Room
 pub mod Deal

@@ -1,31 +1,26 @@
--- A sound book stays sound under every message, and a fresh book is sound: no run that starts so meets refusal 1 again.
+-- A sound book stays sound under every message, and a fresh book is sound.
 -- Assumes nothing.
-use mathlib.Core.Path.{_≡_, refl, sym, ap, _∙_, subst}
+use mathlib.Core.Path.{_≡_, refl, sym, subst}
 use mathlib.Core.Bool.{Bool, true, false, cond, _&&_}
 use mathlib.Core.List.{List, [], _∷_}
 use Prim.Native.Nat.{ℕ}
 use lib.Dec.{eqb}
-use lib.IntN.{ℤ, pos, _*ℤ_}
-use lib.Signed.{leZ}
+use lib.IntN.{ℤ, pos}
 use borrow.Author.Tests.{eqb-true, eqb-false}
 use Rattle.amounts.specs.Limits.{isSupport}
-use Rattle.amounts.specs.Lists.{sum, every}
-use Rattle.refusals.proofs.Laws.{and-left, and-right, and-both}
+use Rattle.amounts.specs.Lists.{every}
+use Rattle.refusals.proofs.Laws.{and-left, and-right}
 use Rattle.messages.specs.declared.types.Message.{Message}
 use Rattle.records.specs.Records.{isBlank, isFree, okPlace}
-use Rattle.credit.specs.Credit.{suspended}
-use Rattle.credit.specs.Weights.{owes}
 use Rattle.book.specs.declared.types.Book.{Book}
-use Rattle.book.specs.Books.{sound, distinct, held, owed, totals, suspendedShown, noRecords, empty}
+use Rattle.book.specs.Books.{sound, distinct, noRecords, empty}
 use Rattle.book.specs.declared.types.Outcome.{Outcome}
 use Rattle.endings.specs.declared.types.Answer.the-variants.{Accepted, Refused}
 use Rattle.book.specs.Step.{fresh, step, deedOf}
-use Rattle.book.proofs.Kept.{done-sound}
-use Rattle.demands.specs.One.{replied}
-use Rattle.demands.specs.Runs.{Sent, after}
+use Rattle.book.proofs.Kept.{sound-make, done-sound}
+use Rattle.demands.specs.Runs.{replied, Sent, after}
 use Rattle.demands.proofs.Answers.{unchanged}
-use Rattle.demands.proofs.Ones.{one-unsound}
-use Rattle.demands.proofs.Taken.{taken, fitting}
+use Rattle.demands.proofs.Accepted.{taken, fitting}
 
 kept-by : (b : Book) (m : Message) (ms : List ℕ) (ps : List ℤ) (t : Bool) → eqb (replied b m ms ps .number) 0 ≡ t → sound b ≡ true → sound (step b m ms ps .book) ≡ true
 kept-by b m ms ps true e h =
@@ -52,10 +47,10 @@ unfolding noRecords every okPlace isBlank distinct isFree
 empty-places = refl
 
 pub empty-sound : (z : ℤ) → isSupport z ≡ true → sound (empty z) ≡ true
-unfolding sound
 empty-sound z h =
-    and-both (isSupport z && every okPlace noRecords) (distinct noRecords) (and-both (isSupport z) (every okPlace noRecords) h (and-left (every okPlace noRecords) (distinct noRecords) empty-places))
-    (and-right (every okPlace noRecords) (distinct noRecords) empty-places)
+    let places = every okPlace noRecords in
+    let apart = distinct noRecords in
+    sound-make (empty z) z noRecords h (and-left places apart empty-places) (and-right places apart empty-places)
 
 fresh-by : (z : ℤ) (t : Bool) → isSupport z ≡ t → (o : Outcome) → o ≡ cond t (record { book = empty z; answer = Accepted (pos 0) (pos 0) (pos 0) }) (record { book = empty (pos 0); answer = Refused 9 (pos 0) (pos 0) }) → sound (o .book) ≡ true
 fresh-by z true e o q = rw q (empty-sound z e)
@@ -65,25 +60,3 @@ fresh-by z false e o q = rw q (empty-sound (pos 0) refl)
 pub fresh-sound : (z : ℤ) → sound (fresh z .book) ≡ true
 unfolding fresh
 fresh-sound z = fresh-by z (isSupport z) refl (fresh z) refl
-
--- and so no run from it meets refusal 1
-pub never-one : (z : ℤ) (xs : List Sent) (m : Message) (ms : List ℕ) (ps : List ℤ) → replied (after (fresh z .book) xs) m ms ps .number ≡ 1 → ⊥
-never-one z xs m ms ps h =
-    let b = after (fresh z .book) xs in
-    one-unsound b m ms ps h (run-sound (fresh z .book) xs (fresh-sound z))
-
--- 'An empty book .. held 0, net owed 0'
-pub empty-held : (z : ℤ) → (held (empty z) ≡ pos 0) × (owed (empty z) ≡ pos 0)
-unfolding held owed owes noRecords sum
-empty-held z = (refl, refl)
-
--- ---- suspension
-
--- 'The book is suspended exactly when 2 x net owed is at least the support'
-pub suspended-exactly : (b : Book) → sound b ≡ true → suspendedShown b ≡ leZ (b .support) (pos 2 *ℤ owed b)
-unfolding suspendedShown suspended totals
-suspended-exactly b h = rw h
-
--- 'An empty book of support 0 is suspended'
-pub empty-suspended : suspendedShown (empty (pos 0)) ≡ true
-empty-suspended = suspended-exactly (empty (pos 0)) (empty-sound (pos 0) refl) ∙ ap (λ (z : ℤ). leZ (pos 0) (pos 2 *ℤ z)) (empty-held (pos 0) .1)

@@ -1,4 +1,4 @@
--- Demand 3.
+-- Demand 3: dealt books stay dealt over a run (DealtRuns.antt), and three fresh books are dealt (Fresh.antt).
 -- Assumes nothing.
 use mathlib.Core.Path.{_≡_, refl, sym, ap, _∙_, subst, fun-ext}
 use mathlib.Core.Bool.{Bool, true, false, cond, _&&_, Bool·beq}
@@ -15,8 +15,8 @@ use Rattle.book.specs.declared.types.Book.{Book}
 use Rattle.book.specs.Places.{orElseBlank}
 use Rattle.book.specs.Books.{lookup, held, owed}
 use Rattle.book.specs.Step.{fresh}
-use Rattle.demands.specs.Runs.{Sent}
-use Rattle.demands.specs.Three.{sentTo, Accepted, Dealt, whole, owner, owners, Follows, Fair, byKey, topSupport, wholeBook, DemandThree}
+use Rattle.demands.specs.Runs.{Sent, sentTo}
+use Rattle.demands.specs.Three.{Accepted, Dealt, whole, owner, owners, Follows, Fair, topSupport, wholeBook, DemandThree}
 use Rattle.demands.proofs.Deal.{under}
 use Rattle.demands.proofs.DealtRuns.{ends}
 use Rattle.demands.proofs.Fresh.{fresh-deal}
@@ -60,7 +60,11 @@ accepted-first b (x ∷ xs) ys a = (a .0, accepted-first (sentTo b (x .sent) .bo
 pub demand-three-throughout : (o : Key → Bool) (z : ℤ) (xs ys : List Dealt) → Fair o (xs ++ ys) → Accepted (fresh z .book) (whole (xs ++ ys)) → DemandThree o z xs
 demand-three-throughout o z xs ys f a = demand-three o z xs (fair-first o xs ys f) (accepted-first (fresh z .book) xs ys a)
 
--- ---- a function from keys to sides
+-- ---- one such dealing: by a function from keys to sides
+
+unfoldable pub byKey : (Key → Bool) → List Sent → List Dealt
+byKey o [] = []
+byKey o (x ∷ xs) = record { side = o (keyOf (x .message)); sent = x } ∷ byKey o xs
 
 still : (o : Key → Bool) (k l : Key) (b q : Bool) → sameKey k l ≡ q → o l ≡ cond (b && q) (o k) (o l)
 still o k l true true e = ap o (sym (sameKey-eq k l e))

@@ -2,7 +2,6 @@
 -- Assumes nothing.
 use mathlib.Core.Path.{_≡_, refl, sym, ap, subst}
 use mathlib.Core.Bool.{Bool, true, false, _&&_}
-use Prim.Native.Nat.{_+_}
 use native.Mathlib.Omega.{arith}
 use lib.IntN.{ℤ, pos, _+ℤ_, _-ℤ_, _*ℤ_}
 use lib.ListN.{length}
@@ -53,19 +52,15 @@ and-false false b h = refl
 fine-within : (m : Message) (r : Record) → Fine (keyOf m) r → Within 1300000000000 (r .requirement)
 fine-within m r f = requirement-bounded r (ok-place r (f .ok))
 
-module _ (b : Book) (m : Message) (sane : sound b ≡ true) (size : length (b .records) ≡ 256) (top : b .support ≡ pos topSupport) where
-  top-support : totals b .support ≡ pos topSupport
-  unfolding totals
-  top-support = top
-
+module _ (b : Book) (m : Message) (sane : sound b ≡ true) (size : length (b .records) ≡ 256) (top : totals b .support ≡ pos topSupport) where
   -- refusals 14 to 16 do not apply, where an open finds a free place
   pub weighed-top : (d : Deed) → Fits (lookup b (keyOf m)) m d → (opens m ≡ true → full b ≡ false) → None (creditRows (totals b) d)
   unfolding None totals
   weighed-top (Keyed (Add r)) f room =
       let t = totals b in
       let small = totals-small b sane size in (
-        not-suspended t top-support small,
-        (room (f .begins), (not-above t top-support small (t .held +ℤ r .requirement) (added-within t top-support small (r .requirement) (fine-within m r (f .fine))), tt)),
+        not-suspended t top small,
+        (room (f .begins), (not-above t top small (t .held +ℤ r .requirement) (added-within t top small (r .requirement) (fine-within m r (f .fine))), tt)),
       )
   weighed-top (Keyed (Rebid was r)) f room =
       let t = totals b in
@@ -74,10 +69,10 @@ module _ (b : Book) (m : Message) (sane : sound b ≡ true) (size : length (b .r
       let standing = every-find (at (keyOf m)) okPlace old (b .records) (sound-places b sane) (lookup-some b (keyOf m) (f .used)) in
       let was-within = subst (Within 1300000000000) (sym (f .was)) (requirement-bounded old standing) in
       let after = t .held -ℤ was +ℤ r .requirement in (
-        not-suspended t top-support small,
+        not-suspended t top small,
         (
           and-false (ltZ was (r .requirement)) (ltZ (t .support) after)
-              (not-above t top-support small after (redone-within t top-support small was (r .requirement) was-within (fine-within m r (f .fine)))),
+              (not-above t top small after (redone-within t top small was (r .requirement) was-within (fine-within m r (f .fine)))),
           tt,
         ),
       )

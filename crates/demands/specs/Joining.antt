@@ -1,4 +1,5 @@
--- Demand 3, its joining clause, for the book: opening a group of kind 2 or 3 with the points of two groups.
+-- Demand 3: 'Joining two lists of export points commutes, is never less than either alone, never more than both added.'
+-- For the book: opening a group of kind 2 or 3 with the points of two groups. The theorems are joining-open and joined-opens, proofs/Joining.antt.
 -- Assumes nothing.
 use mathlib.Core.Path.{_≡_}
 use mathlib.Core.List.{List}

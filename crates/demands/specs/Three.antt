@@ -1,4 +1,6 @@
--- Demand 3: the transactions of a run are dealt between two books, and what then holds of the three.
+-- Demand 3: 'Any run that a fresh book accepted in full can be dealt, without its support changes, between two fresh books at the top support,
+-- transaction by transaction: neither refuses, each transaction ends at the stage and requirement it had, the two held amounts add up.'
+-- The theorem is demand-three, proofs/Three.antt; the joining of export points is Joining.antt.
 -- Assumes nothing.
 use mathlib.Core.Path.{_≡_}
 use mathlib.Core.Bool.{Bool, true, false, cond, _&&_, Bool·beq}
@@ -12,15 +14,11 @@ use Rattle.messages.specs.declared.types.Message.the-variants.{Open, Revise, Wi
 use Rattle.messages.specs.Plan.{keyOf, opens}
 use Rattle.book.specs.declared.types.Book.{Book}
 use Rattle.book.specs.Books.{lookup, held, owed}
-use Rattle.book.specs.declared.types.Outcome.{Outcome}
 use Rattle.endings.specs.Answers.{reply}
-use Rattle.book.specs.Step.{step, fresh}
-use Rattle.demands.specs.Runs.{Sent, after}
+use Rattle.book.specs.Step.{fresh}
+use Rattle.demands.specs.Runs.{Sent, sentTo, after}
 
 -- ---- a run
-
-abbrev pub sentTo : Book → Sent → Outcome
-sentTo b x = step b (x .message) (x .mwhs) (x .prices)
 
 -- each message of the run is accepted: no refusal's number is answered
 unfoldable pub Accepted : Book → List Sent → Type 0
@@ -83,11 +81,6 @@ Follows o x = keyed (x .sent .message) ≡ true → opens (x .sent .message) ≡
 unfoldable pub Fair : (Key → Bool) → List Dealt → Type 0
 Fair o [] = Unit {0}
 Fair o (x ∷ xs) = Follows o x × Fair (owner o x) xs
-
--- one such dealing: by a function from keys to sides
-unfoldable pub byKey : (Key → Bool) → List Sent → List Dealt
-byKey o [] = []
-byKey o (x ∷ xs) = record { side = o (keyOf (x .message)); sent = x } ∷ byKey o xs
 
 -- ---- the three books
 

@@ -1,4 +1,4 @@
--- Refusal 1 is the book's alone: no row that concerns the message or the totals has the number 1.
+-- Refusal 1 is the book's alone: no row that concerns the message or the totals has its number.
 -- Assumes nothing.
 use mathlib.Core.Path.{_≡_, refl, sym, ap, _∙_}
 use mathlib.Core.Bool.{Bool, true, false, not, cond, _&&_}
@@ -8,6 +8,7 @@ use native.Mathlib.Omega.{arith}
 use lib.Dec.{eqb}
 use lib.IntN.{ℤ}
 use borrow.Author.Tests.{eq-eqb}
+use Rattle.amounts.proofs.Signed.{tested}
 use Rattle.refusals.specs.Refusals.{Row, first}
 use Rattle.refusals.proofs.Laws.{and-left, and-right, and-both, never}
 use Rattle.bids.specs.Rows.{pointRows, bidRows}
@@ -25,7 +26,7 @@ use Rattle.credit.specs.Credit.{creditRows}
 use Rattle.book.specs.declared.types.Book.{Book}
 use Rattle.book.specs.Books.{lookup, sound, totals}
 use Rattle.book.specs.Step.{deedOf, table}
-use Rattle.demands.specs.One.{replied}
+use Rattle.demands.specs.Runs.{replied}
 use Rattle.demands.proofs.Answers.{number-is}
 
 -- no row has the number 1; a test that is computed, whatever the rows say
@@ -68,11 +69,19 @@ credit-others t (Keyed (Advance r)) = refl
 credit-others t (Keyed (Remove k)) = refl
 credit-others t (SetSupport support) = refl
 
--- a sound book never answers refusal 1
-pub one-unsound : (b : Book) (m : Message) (ms : List ℕ) (ps : List ℤ) → replied b m ms ps .number ≡ 1 → sound b ≡ true → ⊥
-unfolding table first
-one-unsound b m ms ps h s =
-    let p = planRows (lookup b (keyOf m)) m ms ps in
-    let w = creditRows (totals b) (deedOf b m ms ps) in
-    other-first (p ++ w) (others-append p w (plan-others (lookup b (keyOf m)) m ms ps) (credit-others (totals b) (deedOf b m ms ps)))
-    (sym (ap (λ (t : Bool). cond (not t) 1 (first (p ++ w))) s) ∙ sym (number-is b m ms ps) ∙ h)
+module _ (b : Book) (m : Message) (ms : List ℕ) (ps : List ℤ) where
+  pub unsound-one : sound b ≡ false → replied b m ms ps .number ≡ 1
+  unfolding table first
+  unsound-one h = number-is b m ms ps ∙ rw h
+
+  -- a sound book never answers refusal 1
+  pub sound-other : replied b m ms ps .number ≡ 1 → sound b ≡ true → ⊥
+  unfolding table first
+  sound-other h s =
+      let p = planRows (lookup b (keyOf m)) m ms ps in
+      let w = creditRows (totals b) (deedOf b m ms ps) in
+      other-first (p ++ w) (others-append p w (plan-others (lookup b (keyOf m)) m ms ps) (credit-others (totals b) (deedOf b m ms ps)))
+      (sym (ap (λ (t : Bool). cond (not t) 1 (first (p ++ w))) s) ∙ sym (number-is b m ms ps) ∙ h)
+
+  pub one-unsound : replied b m ms ps .number ≡ 1 → sound b ≡ false
+  one-unsound h = tested (sound b) (λ s. absurd (sound-other h s)) (λ s. s)
