@@ -54,7 +54,7 @@ unfoldable pub postedRequirement : ℕ → ℕ → Bool → ℕ → ℤ → ℤ 
 postedRequirement kind differential exempt schedule price second =
     byKind kind (unlessExempt exempt (importPosted schedule differential)) (exportPosted schedule price differential) (pos 0) (wheelPosted schedule price second) (pos 0)
 
--- stage 3; `posted` is the requirement that the record holds at stage 2, `dayAhead` the price that it keeps
+-- stage 3; `postedCents` is the requirement that the record holds at stage 2, `dayAhead` the price that it keeps
 unfoldable pub finishedRequirement : ℕ → Bool → ℕ → ℤ → ℤ → ℕ → ℤ → ℤ → ℤ
 finishedRequirement kind exempt schedule dayAhead postedCents actual price second =
     byKind kind (unlessExempt exempt (importFinished schedule dayAhead actual price)) (exportFinished postedCents schedule actual price)
