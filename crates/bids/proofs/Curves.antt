@@ -1,30 +1,31 @@
 -- What it means that no row refuses a bid: its points are a curve, and its amounts are in their ranges.
 -- Assumes nothing.
 use mathlib.Core.Path.{_≡_, refl, sym, ap, subst, _∙_}
-use mathlib.Core.Bool.{Bool, true, false, not, cond, _&&_, _||_}
-use mathlib.Core.Logic.{_⊎_, ⊎-elim}
+use mathlib.Core.Bool.{Bool, true, false, not, cond, _&&_}
 use mathlib.Core.List.{List, [], _∷_}
-use Prim.Native.Nat.{ℕ, zero, suc, _*_, _≤_, _<_, zero-le}
+use Prim.Native.Nat.{ℕ, zero, suc, _*_, _≤_, zero-le}
 use native.Mathlib.Nat.{max-le}
 use native.Mathlib.Omega.{arith}
 use lib.Dec.{leb, eqb}
 use lib.IntN.{ℤ, pos, negℤ, _*ℤ_}
 use lib.Signed.{leZ}
 use lib.ListN.{length, getD}
-use borrow.Author.Tests.{not-false, leb-true, eqb-true, eqb-false, ne-eqb}
+use borrow.Author.Tests.{not-false, leb-true, le-leb, eqb-true}
 use Rattle.amounts.specs.Amount.{up, Range}
-use Rattle.amounts.specs.Limits.{between, isPrice, isDifferential}
+use Rattle.amounts.specs.Limits.{between, isPrice}
 use Rattle.amounts.specs.Lists.{every}
-use Rattle.amounts.proofs.Signed.{tested, up-neg, mul-mono, larger-of, times-of, range-true, range-wider}
+use Rattle.amounts.proofs.Signed.{up-neg, mul-mono, larger-of, times-of, range-true, range-wider}
 use Rattle.refusals.specs.Refusals.{row, first, judge, None, numbered}
 use Rattle.refusals.proofs.Laws.{and-left, and-right, none-applies, none-split, numbered-append, answered-none, answered-some}
-use Rattle.kinds.specs.Kinds.{isKind, differentialFits, kindRow, unlessExempt, byKind}
+use Rattle.kinds.specs.declared.Rules.{Rules}
+use Rattle.kinds.specs.Kinds.{isKind, kindRow, unlessExempt, rulesOf, importRules, exportRules, hourAheadRules, wheelRules, differentialFits, bidMwhFits, pendingFits}
+use Rattle.kinds.proofs.ByKind.{by-kind, by-rules, rules-1, rules-2, rules-3, rules-4}
+use Rattle.kinds.proofs.Fits.{pending-range, exempt-range, differential-small}
 use Rattle.bids.specs.Points.{Point, curve, largestMwh, totalMwh, share, mwhAt, Exposure, tried, exposure, wheelExposure}
 use Rattle.bids.specs.Bids.{importBid, exportBid, hourAheadBid, bidMwh, bidRequirement}
-use Rattle.bids.specs.Rows.{isPointMwh, pendingFits, bidMwhFits, pointRows, bidRows}
+use Rattle.bids.specs.Rows.{isPointMwh, pointRows, bidRows}
 use Rattle.bids.specs.Entries.{bidAnswer, bidVerdict}
 use Rattle.bids.specs.declared.types.BidAnswer.the-variants.{Stands, Refused}
-use Rattle.bids.proofs.ByKind.{by-kind, pending-plain, pending-wheel, exempt-range, mwh-point, mwh-sum}
 use Rattle.bids.proofs.Walks.{pointAt}
 use Rattle.bids.proofs.Largest.{exposure-only}
 
@@ -43,7 +44,7 @@ point-rows-numbered ms ps = refl
 
 pub bid-rows-numbered : (kind : ℕ) (ms : List ℕ) (ps : List ℤ) (d : ℕ) → numbered (bidRows kind ms ps d) ≡ true
 unfolding numbered bidRows
-bid-rows-numbered kind ms ps d = numbered-append (pointRows ms ps) (row 8 (not (differentialFits kind d)) ∷ []) (point-rows-numbered ms ps) refl
+bid-rows-numbered kind ms ps d = numbered-append (pointRows ms ps) (row 8 (not (differentialFits (rulesOf kind) d)) ∷ []) (point-rows-numbered ms ps) refl
 
 -- two lists that no row refuses
 pub record Fit (ms : List ℕ) (ps : List ℤ) : Type 0 where
@@ -84,14 +85,14 @@ fit-share {ms} {ps} f k p e = subst (λ (q : Point). share p q ≤ 10000) (sym e
 pub fit-tried : {ms : List ℕ} {ps : List ℤ} → Fit ms ps → (k : ℕ) {q : Point} → q ≡ pointAt ms ps k → up (q .price) ≤ 1000000
 fit-tried f k {q} e = range-true 1000000 1000000 (q .price) (fit-point f k e .1) .high
 
-pub fit-bid : (kind : ℕ) (ms : List ℕ) (ps : List ℤ) (d : ℕ) → None (bidRows kind ms ps d) → None (pointRows ms ps) × (differentialFits kind d ≡ true)
+pub fit-bid : (kind : ℕ) (ms : List ℕ) (ps : List ℤ) (d : ℕ) → None (bidRows kind ms ps d) → None (pointRows ms ps) × (differentialFits (rulesOf kind) d ≡ true)
 unfolding None bidRows
 fit-bid kind ms ps d h =
-    let s = none-split (pointRows ms ps) (row 8 (not (differentialFits kind d)) ∷ []) h in
-    (s .0, not-false (differentialFits kind d) (s .1 .0))
+    let s = none-split (pointRows ms ps) (row 8 (not (differentialFits (rulesOf kind) d)) ∷ []) h in
+    (s .0, not-false (differentialFits (rulesOf kind) d) (s .1 .0))
 
 -- a bid that the table gives no number
-pub bid-stands : (kind : ℕ) (ms : List ℕ) (ps : List ℤ) (d n : ℕ) → n ≡ first (kindRow kind ∷ bidRows kind ms ps d) → n ≡ 0 → None (pointRows ms ps) × (differentialFits kind d ≡ true)
+pub bid-stands : (kind : ℕ) (ms : List ℕ) (ps : List ℤ) (d n : ℕ) → n ≡ first (kindRow kind ∷ bidRows kind ms ps d) → n ≡ 0 → None (pointRows ms ps) × (differentialFits (rulesOf kind) d ≡ true)
 unfolding None numbered
 bid-stands kind ms ps d n e z = fit-bid kind ms ps d (none-applies (kindRow kind ∷ bidRows kind ms ps d) (bid-rows-numbered kind ms ps d) (sym e ∙ z) .1)
 
@@ -106,9 +107,6 @@ module _ (kind : ℕ) (ms : List ℕ) (ps : List ℤ) (d : ℕ) (exempt : Bool) 
   unfolding bidVerdict judge
   standing-bid none p q r =
       rw (← e, none, p, q, r) (sym (ap bidAnswer (answered-none (record { mwh = bidMwh kind (curve ms ps); cents = bidRequirement kind (curve ms ps) d exempt }))))
-
-pub differential-small : (kind d : ℕ) → differentialFits kind d ≡ true → d ≤ 1000000
-differential-small kind d h = leb-true d 1000000 (and-left (isDifferential d) (leb kind 2 || eqb d 0) h)
 
 -- ---- amounts
 
@@ -196,41 +194,27 @@ module _ {ms : List ℕ} {ps : List ℤ} (f : Fit ms ps) (d : ℕ) (h : d ≤ 10
 
 -- ---- by kind
 
--- kinds 2 and 3, and the others, where an export stands against an import or a wheel
-pub export-kind : (kind a b : ℕ) → 2 ≤ kind → kind ≤ 3 → byKind kind a b b a ≡ b
-unfolding byKind
-export-kind kind a b h g =
-    tested (eqb kind 2) (λ e. subst (λ (k : ℕ). byKind k a b b a ≡ b) (sym (eqb-true kind 2 e)) refl)
-    (λ e.
-    let three : kind ≡ 3 = omega (arith, eqb-false kind 2 e) in
-    subst (λ (k : ℕ). byKind k a b b a ≡ b) (sym three) refl)
-
-pub other-kind : (kind a b : ℕ) → (kind < 2) ⊎ (3 < kind) → byKind kind a b b a ≡ a
-unfolding byKind
-other-kind kind a b w =
-    rw (ne-eqb kind 2 (λ e. ⊎-elim (λ h. omega arith) (λ h. omega arith) w), ne-eqb kind 3 (λ e. ⊎-elim (λ h. omega arith) (λ h. omega arith) w))
-    (tested (eqb kind 1) (λ e. rw e) (λ e. rw e))
-
 -- 01, 'a book is sound': the requirement at stage 1 is '0 to 640,000,000,000 (kind 4: to 20,000,000,000)'
-pub bid-bounded : (kind : ℕ) (ms : List ℕ) (ps : List ℤ) (d : ℕ) (exempt : Bool) → None (kindRow kind ∷ bidRows kind ms ps d) → pendingFits kind (bidRequirement kind (curve ms ps) d exempt) ≡ true
+pub bid-bounded : (kind : ℕ) (ms : List ℕ) (ps : List ℤ) (d : ℕ) (exempt : Bool) → None (kindRow kind ∷ bidRows kind ms ps d) → pendingFits (rulesOf kind) (bidRequirement kind (curve ms ps) d exempt) ≡ true
 unfolding None bidRequirement importBid exportBid hourAheadBid
 bid-bounded kind ms ps d exempt none =
     let b = fit-bid kind ms ps d (none .1) in
     let f = fit (b .0) in
     let h = differential-small kind d (b .1) in
     let l = curve ms ps in
-    by-kind (λ (z : ℤ). pendingFits kind z ≡ true) kind _ _ _ _ (not-false (isKind kind) (none .0))
-    (λ e. pending-plain kind (unlessExempt exempt (importBid l d)) (λ w. omega arith) (exempt-range exempt 640000000000 (importBid l d) (omega (arith, import-small f d h))))
-    (λ e. pending-plain kind (exportBid l d) (λ w. omega arith) (omega (arith, larger-of (pos (exposure l)) (pos (totalMwh l * d)), exposure-small f, total-times-small f d h)))
-    (λ e. pending-plain kind (hourAheadBid l) (λ w. omega arith) (omega (arith, exposure-small f)))
-    (λ e. pending-wheel kind (wheelExposure l) (range-wider (wheel-small f) (omega arith) (omega arith)))
+    by-kind (λ (z : ℤ). pendingFits (rulesOf kind) z ≡ true) kind _ _ _ _ _ (not-false (isKind kind) (none .0))
+    (λ e. pending-range kind (unlessExempt exempt (importBid l d)) importRules 640000000000 (rules-1 kind e) refl (exempt-range exempt 640000000000 (importBid l d) (omega (arith, import-small f d h))))
+    (λ e. pending-range kind (exportBid l d) exportRules 640000000000 (rules-2 kind e) refl (omega (arith, larger-of (pos (exposure l)) (pos (totalMwh l * d)), exposure-small f, total-times-small f d h)))
+    (λ e. pending-range kind (hourAheadBid l) hourAheadRules 640000000000 (rules-3 kind e) refl (omega (arith, exposure-small f)))
+    (λ e. pending-range kind (wheelExposure l) wheelRules 20000000000 (rules-4 kind e) refl (range-wider (wheel-small f) (omega arith) (omega arith)))
 
 -- 01, 'a book is sound': 'bid MWh is at most 10,000 for kinds 1 and 4 and 640,000 otherwise'
-pub mwh-bounded : (kind : ℕ) (ms : List ℕ) (ps : List ℤ) (d : ℕ) → None (kindRow kind ∷ bidRows kind ms ps d) → bidMwhFits kind (bidMwh kind (curve ms ps)) ≡ true
+pub mwh-bounded : (kind : ℕ) (ms : List ℕ) (ps : List ℤ) (d : ℕ) → None (kindRow kind ∷ bidRows kind ms ps d) → bidMwhFits (rulesOf kind) (bidMwh kind (curve ms ps)) ≡ true
 unfolding None bidMwh
 mwh-bounded kind ms ps d none =
     let f = fit (fit-bid kind ms ps d (none .1) .0) in
-    by-kind (λ (n : ℕ). bidMwhFits kind n ≡ true) kind _ _ _ _ (not-false (isKind kind) (none .0)) (λ e. mwh-point kind _ (largest-small f))
-    (λ e. mwh-sum kind _ (λ w. omega arith) (λ w. omega arith) (total-small f))
-    (λ e. mwh-sum kind _ (λ w. omega arith) (λ w. omega arith) (total-small f))
-    (λ e. mwh-point kind _ (largest-small f))
+    let l = curve ms ps in
+    by-rules kind (λ (r : Rules). bidMwhFits r (cond (r .adds) (totalMwh l) (largestMwh l)) ≡ true) (not-false (isKind kind) (none .0)) (λ e. le-leb (largestMwh l) 10000 (largest-small f))
+    (λ e. le-leb (totalMwh l) 640000 (total-small f))
+    (λ e. le-leb (totalMwh l) 640000 (total-small f))
+    (λ e. le-leb (largestMwh l) 10000 (largest-small f))

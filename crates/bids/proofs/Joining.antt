@@ -16,7 +16,7 @@ use Rattle.amounts.specs.Lists.{every}
 use Rattle.amounts.proofs.Signed.{signed, tested, larger-of, sum-of}
 use Rattle.refusals.specs.Refusals.{row, None}
 use Rattle.refusals.proofs.Laws.{and-left, and-right, and-both, none-join}
-use Rattle.kinds.specs.Kinds.{differentialFits, byKind}
+use Rattle.kinds.specs.Kinds.{rulesOf, differentialFits, byKind}
 use Rattle.bids.specs.Points.{Point, curve, totalMwh, mwhAt, exposure}
 use Rattle.bids.specs.Bids.{exportBid, hourAheadBid, bidRequirement}
 use Rattle.bids.specs.Rows.{isPointMwh, pointRows, bidRows}
@@ -145,7 +145,7 @@ joining kind m₁ m₂ p₁ p₂ d exempt k none₁ none₂ h =
     asks kind k (curve (m₂ ++ m₁) (p₂ ++ p₁)) d exempt ∙ ap (λ (l : List Point). exportBid l w) (curve-join m₂ m₁ p₂ p₁ (g .equal)) in
     record {
       accepted =
-          none-join (pointRows (m₁ ++ m₂) (p₁ ++ p₂)) (row 8 (not (differentialFits kind d)) ∷ []) (points-join m₁ m₂ p₁ p₂ f g h)
+          none-join (pointRows (m₁ ++ m₂) (p₁ ++ p₂)) (row 8 (not (differentialFits (rulesOf kind) d)) ∷ []) (points-join m₁ m₂ p₁ p₂ f g h)
           (ap not (b₁ .1), tt);
       commutes = a ∙ export-swap (curve m₁ p₁) (curve m₂ p₂) w ∙ sym b;
       left = rw (a, a₁) (s .left);

@@ -1,4 +1,3 @@
-pub mod ByKind
 pub mod Largest
 pub mod Walks
 pub mod Prices

@@ -8,13 +8,14 @@ use lib.IntN.{ℤ, _+ℤ_}
 use lib.Signed.{_≤ℤ_}
 use Rattle.amounts.specs.Limits.{between}
 use Rattle.refusals.specs.Refusals.{None}
+use Rattle.kinds.specs.Kinds.{export, hourAhead}
 use Rattle.bids.specs.Points.{curve}
 use Rattle.bids.specs.Rows.{bidRows}
 use Rattle.bids.specs.Bids.{bidRequirement}
 
 -- 01, The book and its kinds: '2 Day-Ahead export, 3 Hour-Ahead export'
 abbrev pub isExport : ℕ → Bool
-isExport kind = between 2 3 kind
+isExport kind = between export hourAhead kind
 
 -- the requirement of the joined points commutes, is never less than either alone, never more than both added; and the joined points are not refused
 pub record Joined (kind : ℕ) (m₁ m₂ : List ℕ) (p₁ p₂ : List ℤ) (differential : ℕ) (exempt : Bool) : Type 0 where

@@ -5,8 +5,7 @@ use crate::points::points_refusal;
 use crate::points::total_mwh;
 use crate::points::wheel_exposure;
 use crate::types::BidAnswer;
-use kinds::differential_fits;
-use kinds::is_kind;
+use kinds::Kind;
 use kinds::unless_exempt;
 use refusals::Figure;
 use refusals::or_else;
@@ -26,9 +25,10 @@ ghost use Rattle.bids.specs.Entries.{bidVerdict, bidAnswer, Exposed};
 fn bid_refusal(kind: u64, mwh: &[u64], prices: &[i64], differential: u64) -> u64
     ensures { λ r. ⌜ r ≡ first (kindRow kind ∷ bidRows kind (now (mwh .entry)) (now (prices .entry)) differential) ⌝ }
 {
-    let last = pick(!differential_fits(kind, differential), 8, 0);
+    let rules = Kind { number: kind }.rules();
+    let last = pick(!rules.differential_fits(differential), 8, 0);
     let below = or_else(points_refusal(mwh, prices), last);
-    pick(!is_kind(kind), 2, below)
+    pick(!Kind { number: kind }.in_range(), 2, below)
 }
 
 fn import_bid(mwh: &[u64], prices: &[i64], differential: u64) -> i64
@@ -58,9 +58,11 @@ fn bid_mwh(kind: u64, mwh: &[u64], prices: &[i64]) -> u64
     requires { ⌜ None (pointRows (now mwh) (now prices)) ⌝ }
     ensures { λ r. ⌜ r ≡ bidMwh kind (curve (now (mwh .entry)) (now (prices .entry))) ⌝ }
 {
-    match kind {
-        2 | 3 => total_mwh(mwh, prices),
-        _ => largest_mwh(mwh, prices),
+    let rules = Kind { number: kind }.rules();
+    if rules.adds {
+        total_mwh(mwh, prices)
+    } else {
+        largest_mwh(mwh, prices)
     }
 }
 
@@ -69,10 +71,11 @@ fn bid_requirement(kind: u64, mwh: &[u64], prices: &[i64], differential: u64, ex
     ensures { λ r. ⌜ r ≡ bidRequirement kind (curve (now (mwh .entry)) (now (prices .entry))) differential exempt ⌝ }
 {
     match kind {
-        1 => unless_exempt(exempt, import_bid(mwh, prices, differential)),
-        2 => export_bid(mwh, prices, differential),
-        3 => hour_ahead_bid(mwh, prices),
-        _ => wheel_exposure(mwh, prices),
+        Kind::IMPORT => unless_exempt(exempt, import_bid(mwh, prices, differential)),
+        Kind::EXPORT => export_bid(mwh, prices, differential),
+        Kind::HOUR_AHEAD_EXPORT => hour_ahead_bid(mwh, prices),
+        Kind::WHEEL => wheel_exposure(mwh, prices),
+        _ => 0,
     }
 }
 

@@ -1,23 +1,22 @@
 -- What the tests of the limits say: of a number as the code reads it, and of the numbers of a post or a finish where no row applies.
 -- Assumes nothing.
 use mathlib.Core.Path.{_≡_, ap, _∙_}
-use mathlib.Core.Bool.{true, _&&_, _||_, not}
+use mathlib.Core.Bool.{true, _&&_}
 use Prim.Native.Nat.{ℕ}
 use native.Mathlib.Omega.{arith}
-use lib.Dec.{leb, eqb}
 use lib.IntN.{ℤ, pos}
 use mir.Syntax.{w64}
 use mir.Val.{SFits, toZ, ofZ}
 use mir.Facts.{toZ-ofZ}
-use borrow.Author.Tests.{leb-true, not-false}
-use Rattle.amounts.specs.Limits.{isQuantity, isPrice, isNil, isDifferential, isBid, isWheel}
+use borrow.Author.Tests.{leb-true, le-leb, not-false}
+use Rattle.amounts.specs.Limits.{isQuantity, isPrice, isDifferential, isBid}
 use Rattle.amounts.proofs.Signed.{range-true}
 use Rattle.amounts.proofs.Steps.{Known, param, quantity}
 use Rattle.refusals.specs.Refusals.{None}
 use Rattle.refusals.proofs.Laws.{and-left, and-right}
-use Rattle.kinds.specs.Kinds.{differentialFits}
-use Rattle.bids.specs.Rows.{pendingFits}
-use Rattle.deliveries.specs.Rows.{pricesFit, deliveryRows, postedRows, finishedRows}
+use Rattle.kinds.specs.Kinds.{rulesOf, differentialFits, pendingFits, pricesFit}
+use Rattle.kinds.proofs.Fits.{differential-small, Prices, prices}
+use Rattle.formulas.specs.Rows.{deliveryRows, postedRows, finishedRows}
 
 -- ---- a parameter that passed its test, as the code reads it
 
@@ -49,15 +48,6 @@ handed-pending f h = ap isBid (toZ-ofZ f) ∙ h
 
 -- ---- the numbers of a post or a finish that no row refuses
 
-pub record Prices (p q : ℤ) : Type 0 where
-  pub first : isPrice p ≡ true
-  pub second : isPrice q ≡ true
-
-prices : (kind : ℕ) (p q : ℤ) → pricesFit kind p q ≡ true → Prices p q
-prices kind p q h =
-    let both = and-left (isPrice p && isPrice q) (eqb kind 4 || isNil q) h in
-    record { first = and-left (isPrice p) (isPrice q) both; second = and-right (isPrice p) (isPrice q) both }
-
 pub record Posting (d s : ℕ) (p q : ℤ) : Type 0 where
   pub differential : isDifferential d ≡ true
   pub schedule : isQuantity s ≡ true
@@ -66,9 +56,9 @@ pub record Posting (d s : ℕ) (p q : ℤ) : Type 0 where
 pub posting : (kind d s : ℕ) (p q : ℤ) → None (postedRows kind d s p q) → Posting d s p q
 unfolding None postedRows deliveryRows
 posting kind d s p q h = record {
-  differential = and-left (isDifferential d) (leb kind 2 || eqb d 0) (not-false (differentialFits kind d) (h .1 .1 .0));
+  differential = le-leb d 1000000 (differential-small kind d (not-false (differentialFits (rulesOf kind) d) (h .1 .1 .0)));
   schedule = not-false (isQuantity s) (h .0);
-  prices = prices kind p q (not-false (pricesFit kind p q) (h .1 .0));
+  prices = prices (rulesOf kind) p q (not-false (pricesFit (rulesOf kind) p q) (h .1 .0));
 }
 
 pub record Finish (kind s : ℕ) (dayAhead posted : ℤ) (a : ℕ) (p q : ℤ) : Type 0 where
@@ -76,21 +66,17 @@ pub record Finish (kind s : ℕ) (dayAhead posted : ℤ) (a : ℕ) (p q : ℤ) :
   pub actual : isQuantity a ≡ true
   pub kept : isPrice dayAhead ≡ true
   pub prices : Prices p q
-  pub pending : pendingFits kind posted ≡ true
+  pub pending : pendingFits (rulesOf kind) posted ≡ true
 
 pub finish : (kind s : ℕ) (dayAhead posted : ℤ) (a : ℕ) (p q : ℤ) → None (finishedRows kind s dayAhead posted a p q) → Finish kind s dayAhead posted a p q
 unfolding None finishedRows
 finish kind s dayAhead posted a p q h =
     let quantities = not-false (isQuantity s && isQuantity a) (h .0) in
-    let priced = not-false (isPrice dayAhead && pricesFit kind p q) (h .1 .0) in
+    let priced = not-false (isPrice dayAhead && pricesFit (rulesOf kind) p q) (h .1 .0) in
     record {
       schedule = and-left (isQuantity s) (isQuantity a) quantities;
       actual = and-right (isQuantity s) (isQuantity a) quantities;
-      kept = and-left (isPrice dayAhead) (pricesFit kind p q) priced;
-      prices = prices kind p q (and-right (isPrice dayAhead) (pricesFit kind p q) priced);
-      pending = not-false (pendingFits kind posted) (h .1 .1 .0);
+      kept = and-left (isPrice dayAhead) (pricesFit (rulesOf kind) p q) priced;
+      prices = prices (rulesOf kind) p q (and-right (isPrice dayAhead) (pricesFit (rulesOf kind) p q) priced);
+      pending = not-false (pendingFits (rulesOf kind) posted) (h .1 .1 .0);
     }
-
--- whatever the kind, a requirement of stages 1 and 2 is one of kind 1's range
-pub pending-bid : (kind : ℕ) (z : ℤ) → pendingFits kind z ≡ true → isBid z ≡ true
-pending-bid kind z h = and-left (isBid z) (not (eqb kind 4) || isWheel z) h

@@ -1,3 +1,4 @@
+pub mod Numbered
 pub mod Given
 pub mod StageLaws
 pub mod Worked

@@ -15,14 +15,16 @@ use Rattle.amounts.proofs.Signed.{sum-of, difference-of, larger-of, times-of, m
 use Rattle.refusals.specs.Refusals.{Row, first, None, judge}
 use Rattle.refusals.specs.declared.Figure.the-variants.{Cents, Refused}
 use Rattle.refusals.specs.Figures.{figure}
-use Rattle.refusals.proofs.Laws.{and-right, answered-some, judge-none}
-use Rattle.kinds.specs.Kinds.{isKind, kindRow, byKind}
-use Rattle.bids.specs.Rows.{isPointMwh, pendingFits, bidMwhFits}
-use Rattle.bids.proofs.ByKind.{range-test, by-kind, pending-plain, pending-wheel, exempt-range}
+use Rattle.refusals.proofs.Laws.{answered-some, judge-none}
+use Rattle.kinds.specs.declared.Rules.{Rules}
+use Rattle.kinds.specs.Kinds.{wheel, isKind, kindRow, byKind, rulesOf, importRules, exportRules, hourAheadRules, wheelRules, bidMwhFits, pendingFits}
+use Rattle.kinds.proofs.ByKind.{by-kind, rules-1, rules-2, rules-3, rules-4}
+use Rattle.kinds.proofs.Fits.{range-test, pending-range, pending-bid, pending-wheel, exempt-range}
+use Rattle.bids.specs.Rows.{isPointMwh}
 use Rattle.formulas.specs.Stages.{importPosted, balancing, importFinished, exportPosted, exportFinished, hourAheadFinished, wheelPosted, wheelFinished, postedRequirement, finishedRequirement}
-use Rattle.deliveries.specs.Rows.{postedRows, finishedRows, billRows}
+use Rattle.formulas.specs.Rows.{postedRows, finishedRows, billRows}
 use Rattle.formulas.specs.Entries.{postedVerdict, finishedVerdict, billedVerdict}
-use Rattle.formulas.proofs.Given.{posting, finish, pending-bid}
+use Rattle.formulas.proofs.Given.{posting, finish}
 
 nothing : Range 0 0 (pos 0)
 nothing = omega arith
@@ -94,22 +96,19 @@ wheel-finished-range posted s a w i hr hs ha hw hi =
 -- ---- by kind
 
 -- what a wheel's schedule passes, being at most its bid MWh
-wheel-mwh : (kind s : ℕ) → kind ≡ 4 → bidMwhFits kind s ≡ true → isPointMwh s ≡ true
-wheel-mwh kind s e h = and-right (isQuantity s) (isPointMwh s) (subst (λ (k : ℕ). bidMwhFits k s ≡ true) e h)
-
-wheel-pending : (kind : ℕ) (z : ℤ) → kind ≡ 4 → pendingFits kind z ≡ true → isWheel z ≡ true
-wheel-pending kind z e h = and-right (isBid z) (isWheel z) (subst (λ (k : ℕ). pendingFits k z ≡ true) e h)
+wheel-mwh : (kind s : ℕ) → kind ≡ wheel → bidMwhFits (rulesOf kind) s ≡ true → isPointMwh s ≡ true
+wheel-mwh kind s e h = subst (λ (r : Rules). bidMwhFits r s ≡ true) (rules-4 kind e) h
 
 -- 01, 'a book is sound': a posted requirement is in the range of stage 2
-pub posted-bounded : (kind differential : ℕ) (exempt : Bool) (schedule : ℕ) (price second : ℤ) → None (kindRow kind ∷ postedRows kind differential schedule price second) → bidMwhFits kind schedule ≡ true → pendingFits kind (postedRequirement kind differential exempt schedule price second) ≡ true
+pub posted-bounded : (kind differential : ℕ) (exempt : Bool) (schedule : ℕ) (price second : ℤ) → None (kindRow kind ∷ postedRows kind differential schedule price second) → bidMwhFits (rulesOf kind) schedule ≡ true → pendingFits (rulesOf kind) (postedRequirement kind differential exempt schedule price second) ≡ true
 unfolding None postedRequirement
 posted-bounded kind differential exempt schedule price second h fits =
     let g = posting kind differential schedule price second (h .1) in
-    by-kind (λ z. pendingFits kind z ≡ true) kind _ _ _ _ (not-false (isKind kind) (h .0))
-    (λ e. pending-plain kind _ (λ f. omega arith) (exempt-range exempt _ _ (import-posted-range schedule differential (g .schedule) (g .differential))))
-    (λ e. pending-plain kind _ (λ f. omega arith) (export-posted-range schedule price differential (g .schedule) (g .prices .first) (g .differential)))
-    (λ e. pending-wheel kind (pos 0) (range-wider nothing (omega arith) (omega arith)))
-    (λ e. pending-wheel kind _ (wheel-posted-range schedule price second (wheel-mwh kind schedule e fits) (g .prices .first) (g .prices .second)))
+    by-kind (λ (z : ℤ). pendingFits (rulesOf kind) z ≡ true) kind _ _ _ _ _ (not-false (isKind kind) (h .0))
+    (λ e. pending-range kind _ importRules 640000000000 (rules-1 kind e) refl (exempt-range exempt _ _ (import-posted-range schedule differential (g .schedule) (g .differential))))
+    (λ e. pending-range kind _ exportRules 640000000000 (rules-2 kind e) refl (export-posted-range schedule price differential (g .schedule) (g .prices .first) (g .differential)))
+    (λ e. pending-range kind (pos 0) hourAheadRules 640000000000 (rules-3 kind e) refl (range-wider nothing (omega arith) (omega arith)))
+    (λ e. pending-range kind _ wheelRules 20000000000 (rules-4 kind e) refl (wheel-posted-range schedule price second (wheel-mwh kind schedule e fits) (g .prices .first) (g .prices .second)))
 
 -- 01, 'a book is sound': a finished requirement is within 1,300,000,000,000 of zero
 pub finished-bounded : (kind : ℕ) (exempt : Bool) (schedule : ℕ) (dayAhead posted : ℤ) (actual : ℕ) (price second : ℤ) → None (kindRow kind ∷ finishedRows kind schedule dayAhead posted actual price second) → isFinished (finishedRequirement kind exempt schedule dayAhead posted actual price second) ≡ true
@@ -118,18 +117,16 @@ finished-bounded kind exempt schedule dayAhead posted actual price second h =
     let g = finish kind schedule dayAhead posted actual price second (h .1) in
     let bid = pending-bid kind posted (g .pending) in
     range-test 1300000000000 1300000000000 _
-    (by-kind (Range 1300000000000 1300000000000) kind _ _ _ _ (not-false (isKind kind) (h .0))
+    (by-kind (Range 1300000000000 1300000000000) kind _ _ _ _ _ (not-false (isKind kind) (h .0))
     (λ e. range-wider (exempt-range exempt _ _ (import-finished-range schedule dayAhead actual price (g .schedule) (g .kept) (g .actual) (g .prices .first))) (omega arith) (omega arith))
     (λ e. range-wider (export-finished-range posted schedule actual price bid (g .schedule) (g .actual) (g .prices .first)) (omega arith) (omega arith))
     (λ e. range-wider (hour-ahead-finished-range actual price (g .actual) (g .prices .first)) (omega arith) (omega arith))
-    (λ e. wheel-finished-range posted schedule actual price second (wheel-pending kind posted e (g .pending)) (g .schedule) (g .actual) (g .prices .first) (g .prices .second)))
+    (λ e. wheel-finished-range posted schedule actual price second (pending-wheel kind posted e (g .pending)) (g .schedule) (g .actual) (g .prices .first) (g .prices .second)))
 
 -- and the range is no wider than it must be: a wheel of 640,000 MWh above its schedule is at its end
-pub finished-met : None (kindRow 4 ∷ finishedRows 4 0 (pos 0) (pos 20000000000) 640000 (pos 1000000) (negℤ (pos 1000000))) × (finishedRequirement 4 false 0 (pos 0) (pos 20000000000) 640000 (pos 1000000) (negℤ (pos 1000000)) ≡ pos 1300000000000)
-unfolding None finishedRows finishedRequirement byKind wheelFinished
+pub finished-met : None (kindRow wheel ∷ finishedRows wheel 0 (pos 0) (pos 20000000000) 640000 (pos 1000000) (negℤ (pos 1000000))) × (finishedRequirement wheel false 0 (pos 0) (pos 20000000000) 640000 (pos 1000000) (negℤ (pos 1000000)) ≡ pos 1300000000000)
+unfolding None finishedRows finishedRequirement byKind rulesOf wheelFinished
 finished-met = ((refl, (refl, (refl, (refl, tt)))), refl)
-
--- ---- no row has the number 0
 
 -- ---- what an entry answers, by whether a row applies
 figure-cents : (rows : List Row) (z : ℤ) → None rows → figure (judge rows z) ≡ Cents z

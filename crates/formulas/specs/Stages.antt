@@ -49,10 +49,10 @@ wheelFinished posted schedule actual withdrawal injection =
 
 -- ---- by kind
 
--- stage 2, which kind 3 does not have; the prices are the message's first and second
+-- stage 2, which an Hour-Ahead export does not have; the prices are the message's first and second
 unfoldable pub postedRequirement : ℕ → ℕ → Bool → ℕ → ℤ → ℤ → ℤ
 postedRequirement kind differential exempt schedule price second =
-    byKind kind (unlessExempt exempt (importPosted schedule differential)) (exportPosted schedule price differential) (pos 0) (wheelPosted schedule price second)
+    byKind kind (unlessExempt exempt (importPosted schedule differential)) (exportPosted schedule price differential) (pos 0) (wheelPosted schedule price second) (pos 0)
 
 -- stage 3; `posted` is the requirement that the record holds at stage 2, `dayAhead` the price that it keeps
 unfoldable pub finishedRequirement : ℕ → Bool → ℕ → ℤ → ℤ → ℕ → ℤ → ℤ → ℤ
@@ -60,3 +60,4 @@ finishedRequirement kind exempt schedule dayAhead posted actual price second =
     byKind kind (unlessExempt exempt (importFinished schedule dayAhead actual price)) (exportFinished posted schedule actual price)
     (hourAheadFinished actual price)
     (wheelFinished posted schedule actual price second)
+    (pos 0)

@@ -7,11 +7,12 @@ ghost use Rattle.amounts.specs.Limits.{isQuantity, isPrice, isDifferential, isB
 ghost use Rattle.refusals.specs.Refusals.{None};
 ghost use Rattle.refusals.specs.Figures.{figure};
 ghost use Rattle.formulas.specs.Stages.{importPosted, balancing, importFinished, exportPosted, exportFinished, hourAheadFinished, wheelPosted, wheelFinished, postedRequirement, finishedRequirement};
-ghost use Rattle.deliveries.specs.Rows.{postedRows, finishedRows};
+ghost use Rattle.formulas.specs.Rows.{postedRows, finishedRows};
 ghost use Rattle.formulas.specs.Entries.{postedVerdict, finishedVerdict, billedVerdict};
-use deliveries::bill_refusal;
-use deliveries::finished_refusal;
-use deliveries::posted_refusal;
+use crate::rows::bill_refusal;
+use crate::rows::finished_refusal;
+use crate::rows::posted_refusal;
+use kinds::Kind;
 use kinds::unless_exempt;
 use refusals::Figure;
 
@@ -128,11 +129,12 @@ fn posted_requirement(
     ensures { λ r. ⌜ r ≡ postedRequirement kind differential exempt schedule price second ⌝ }
 {
     match kind {
-        1 => unless_exempt(exempt, import_posted(schedule, differential)),
-        2 => export_posted(schedule, price, differential),
-        // Kind 3 has no stage 2: its row refuses first.
-        3 => 0,
-        _ => wheel_posted(schedule, price, second),
+        Kind::IMPORT => unless_exempt(exempt, import_posted(schedule, differential)),
+        Kind::EXPORT => export_posted(schedule, price, differential),
+        // It is never posted: its row refuses first.
+        Kind::HOUR_AHEAD_EXPORT => 0,
+        Kind::WHEEL => wheel_posted(schedule, price, second),
+        _ => 0,
     }
 }
 
@@ -150,10 +152,11 @@ fn finished_requirement(
     ensures { λ r. ⌜ r ≡ finishedRequirement kind exempt schedule «day_ahead» «posted_cents» actual price second ⌝ }
 {
     match kind {
-        1 => unless_exempt(exempt, import_finished(schedule, day_ahead, actual, price)),
-        2 => export_finished(posted_cents, schedule, actual, price),
-        3 => hour_ahead_finished(actual, price),
-        _ => wheel_finished(posted_cents, schedule, actual, price, second),
+        Kind::IMPORT => unless_exempt(exempt, import_finished(schedule, day_ahead, actual, price)),
+        Kind::EXPORT => export_finished(posted_cents, schedule, actual, price),
+        Kind::HOUR_AHEAD_EXPORT => hour_ahead_finished(actual, price),
+        Kind::WHEEL => wheel_finished(posted_cents, schedule, actual, price, second),
+        _ => 0,
     }
 }
 

@@ -78,3 +78,12 @@ module _ (kind : ℕ) where
       → (kind ≡ wheel → P wheelRules) → P (rulesOf kind)
   unfolding rulesOf
   by-rules P h f1 f2 f3 f4 = by-kind P kind importRules exportRules hourAheadRules wheelRules noRules h f1 f2 f3 f4
+
+-- what holds of every row, also of the one that is no kind's
+pub all-rules : (P : Rules → Type 0) → P importRules → P exportRules → P hourAheadRules → P wheelRules → P noRules → (kind : ℕ) → P (rulesOf kind)
+unfolding rulesOf byKind
+all-rules P x y z w v kind =
+    by-test P (eqb kind import) importRules _ (λ e. x) (λ n1.
+    by-test P (eqb kind export) exportRules _ (λ e. y) (λ n2.
+    by-test P (eqb kind hourAhead) hourAheadRules _ (λ e. z) (λ n3.
+    by-test P (eqb kind wheel) wheelRules noRules (λ e. w) (λ n4. v))))

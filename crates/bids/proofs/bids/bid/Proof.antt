@@ -1,11 +1,11 @@
 -- `bids::bid`: refused by the number that the table gives, or else the bid by its formulas.
 use mathlib.Core.Path.{_≡_}
-use mathlib.Core.Bool.{true, _||_}
-use lib.Dec.{leb, eqb}
+use mathlib.Core.Bool.{true}
+use borrow.Author.Tests.{le-leb}
 use Rattle.amounts.specs.Limits.{isDifferential}
 use Rattle.amounts.proofs.Steps.{back}
 use Rattle.refusals.specs.Refusals.{None}
-use Rattle.refusals.proofs.Laws.{and-left}
+use Rattle.kinds.proofs.Fits.{differential-small}
 use Rattle.bids.specs.Rows.{pointRows}
 use Rattle.bids.proofs.Curves.{bid-stands, refused-bid, standing-bid}
 use Rattle.bids.proofs.bids.bid.Statement.{statement}
@@ -29,7 +29,7 @@ fits : (c : tie.Else1) → Fits c
 fits c =
     let s = c .before .before .before .args in
     let b = bid-stands (s .kind) (s .mwh .now) (s .prices .now) (s .differential) (c .before .bid-refusal .result) (c .before .bid-refusal .ensures) (c .if1 .left) in
-    record { points = b .0; differential = and-left (isDifferential (s .differential)) (leb (s .kind) 2 || eqb (s .differential) 0) (b .1) }
+    record { points = b .0; differential = le-leb (s .differential) 1000000 (differential-small (s .kind) (s .differential) (b .1)) }
 
 bid-mwh-requires : tie.Need-bid-mwh-requires
 bid-mwh-requires c κs = fits c .points

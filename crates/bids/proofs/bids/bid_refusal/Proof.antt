@@ -3,11 +3,14 @@ use mathlib.Core.Bool.{not}
 use mathlib.Core.List.{[], _∷_}
 use Rattle.refusals.specs.Refusals.{row, first}
 use Rattle.refusals.proofs.Laws.{first-append}
-use Rattle.kinds.specs.Kinds.{differentialFits}
+use Rattle.kinds.specs.Kinds.{rulesOf, differentialFits}
 use Rattle.bids.specs.Rows.{pointRows, bidRows}
 use Rattle.bids.proofs.Curves.{point-rows-numbered}
 use Rattle.bids.proofs.bids.bid_refusal.Statement.{statement}
 use Rattle.bids.proofs.bids.bid_refusal.Tie as tie
+
+rules-requires : tie.Need-rules-requires
+rules-requires c κs = tt
 
 differential-fits-requires : tie.Need-differential-fits-requires
 differential-fits-requires c κs = tt
@@ -21,8 +24,8 @@ points-refusal-requires c κs = tt
 or-else-requires : tie.Need-or-else-requires
 or-else-requires c κs = tt
 
-is-kind-requires : tie.Need-is-kind-requires
-is-kind-requires c κs = tt
+in-range-requires : tie.Need-in-range-requires
+in-range-requires c κs = tt
 
 pick-requires-2 : tie.Need-pick-requires-2
 pick-requires-2 c κs = tt
@@ -30,15 +33,16 @@ pick-requires-2 c κs = tt
 returns : tie.Need-returns
 unfolding first bidRows
 returns c =
-    let s = c .before .before .before .before .before .before .before .args in
-    let last = row 8 (not (differentialFits (s .kind) (s .differential))) ∷ [] in
+    let s = c .before .before .before .before .before .before .before .before .args in
+    let last = row 8 (not (differentialFits (rulesOf (s .kind)) (s .differential))) ∷ [] in
     rw (
       c .pick2 .ensures,
-      c .before .is-kind .ensures,
+      c .before .in-range .ensures,
       c .before .before .or-else .ensures,
       c .before .before .before .points-refusal .ensures,
       c .before .before .before .before .pick .ensures,
       c .before .before .before .before .before .differential-fits .ensures,
+      c .before .before .before .before .before .before .rules .ensures,
       first-append (pointRows (s .mwh .now) (s .prices .now)) last (point-rows-numbered (s .mwh .now) (s .prices .now)),
     )
 
@@ -46,10 +50,11 @@ pub bid-refusal-spec : {M : Type 1} → statement M
 bid-refusal-spec =
     tie.close
     (tie.spec
+    rules-requires
     differential-fits-requires
     pick-requires
     points-refusal-requires
     or-else-requires
-    is-kind-requires
+    in-range-requires
     pick-requires-2
     returns)

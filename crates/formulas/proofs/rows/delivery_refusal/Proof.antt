@@ -1,9 +1,12 @@
 -- `delivery_refusal`: the picks are the rows, from the last up.
 use mir.Facts.{toZ-ofZ}
 use Rattle.refusals.specs.Refusals.{first}
-use Rattle.deliveries.specs.Rows.{deliveryRows}
-use Rattle.deliveries.proofs.delivery_refusal.Statement.{statement}
-use Rattle.deliveries.proofs.delivery_refusal.Tie as tie
+use Rattle.formulas.specs.Rows.{deliveryRows}
+use Rattle.formulas.proofs.rows.delivery_refusal.Statement.{statement}
+use Rattle.formulas.proofs.rows.delivery_refusal.Tie as tie
+
+rules-requires : tie.Need-rules-requires
+rules-requires c κs = tt
 
 prices-fit-requires : tie.Need-prices-fit-requires
 prices-fit-requires c κs = tt
@@ -20,7 +23,7 @@ pick-requires-2 c κs = tt
 returns : tie.Need-returns
 unfolding first deliveryRows
 returns c =
-    let s = c .before .before .before .before in
+    let s = c .before .before .before .before .before in
     rw (
       ← toZ-ofZ (s .fits .price),
       ← toZ-ofZ (s .fits .second),
@@ -28,9 +31,10 @@ returns c =
       c .before .in-range .ensures,
       c .before .before .pick .ensures,
       c .before .before .before .prices-fit .ensures,
+      c .before .before .before .before .rules .ensures,
     )
 
 pub delivery-refusal-spec : {M : Type 1} → statement M
 delivery-refusal-spec =
     tie.close
-    (tie.spec prices-fit-requires pick-requires in-range-requires pick-requires-2 returns)
+    (tie.spec rules-requires prices-fit-requires pick-requires in-range-requires pick-requires-2 returns)
