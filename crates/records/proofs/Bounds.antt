@@ -11,22 +11,12 @@ use borrow.Author.Tests.{leb-true, leb-false, eqb-false, eq-eqb, le-leb}
 use Rattle.amounts.specs.Amount.{Range}
 use Rattle.amounts.specs.Limits.{isBill, isFinished}
 use Rattle.amounts.proofs.Signed.{range-true, range-wider, tested}
-use Rattle.kinds.specs.declared.Rules.{Rules}
-use Rattle.kinds.specs.Kinds.{bidStage, postedStage, finishedStage, billedStage, isKind, pendingFits, rulesOf}
-use Rattle.kinds.proofs.ByKind.{by-rules}
+use Rattle.kinds.specs.Kinds.{bidStage, postedStage, finishedStage, billedStage, pendingFits, rulesOf}
+use Rattle.kinds.proofs.Fits.{pending-wide}
 use Rattle.refusals.proofs.Laws.{and-left, and-right}
 use Rattle.records.specs.Records.{Record, blank, isBlank, implies, requirementFits, okRecord, okPlace}
 use Rattle.records.proofs.Clauses.{either, implied, clauses}
-use Rattle.records.proofs.Keys.{key-kind, stage-bounds, blank-eq}
-
--- 'stages 1 and 2, 0 to 640,000,000,000': no kind's bound is above it
-pub pending-range : (kind : ℕ) (z : ℤ) → isKind kind ≡ true → pendingFits (rulesOf kind) z ≡ true → Range 0 640000000000 z
-pending-range kind z k =
-    by-rules kind (λ (rules : Rules). pendingFits rules z ≡ true → Range 0 640000000000 z) k
-    (λ e. range-true 0 640000000000 z)
-    (λ e. range-true 0 640000000000 z)
-    (λ e. range-true 0 640000000000 z)
-    (λ e h. range-wider (range-true 0 20000000000 z h) (omega arith) (omega arith))
+use Rattle.records.proofs.Keys.{stage-bounds, blank-eq}
 
 module _ (kind stage : ℕ) (z : ℤ) (h : requirementFits (rulesOf kind) stage z ≡ true) where
   abbrev pending : Bool
@@ -50,17 +40,15 @@ module _ (kind stage : ℕ) (z : ℤ) (h : requirementFits (rulesOf kind) stage 
   billed-range : eqb stage billedStage ≡ true → Range 1000000000000 1000000000000 z
   billed-range e = range-true 1000000000000 1000000000000 z (implied (eqb stage billedStage) (isBill z) (and-right (pending && finished) billed h) e)
 
-  pub stage-range : isKind kind ≡ true → stage ≤ billedStage → Range 1300000000000 1300000000000 z
-  stage-range k most =
+  pub stage-range : stage ≤ billedStage → Range 1300000000000 1300000000000 z
+  stage-range most =
       tested (leb stage postedStage)
-      (λ e. range-wider (pending-range kind z k (pending-fits (leb-true stage postedStage e))) (omega arith) (omega arith))
+      (λ e. range-wider (pending-wide kind z (pending-fits (leb-true stage postedStage e))) (omega arith) (omega arith))
       (λ e. tested (eqb stage finishedStage) finished-range
       (λ f. range-wider (billed-range (eq-eqb stage billedStage (omega (arith, leb-false stage postedStage e, eqb-false stage finishedStage f)))) (omega arith) (omega arith)))
 
 record-bounded : (r : Record) → okRecord r ≡ true → Range 1300000000000 1300000000000 (r .requirement)
-record-bounded r h =
-    let c = clauses r h in
-    stage-range (r .key .kind) (r .stage) (r .requirement) (c .requirement) (key-kind (r .key) (c .key)) (stage-bounds r h .1)
+record-bounded r h = stage-range (r .key .kind) (r .stage) (r .requirement) (clauses r h .requirement) (stage-bounds r h .1)
 
 -- a blank weighs 0, held and owed
 pub requirement-blank : blank .requirement ≡ pos 0
@@ -86,5 +74,4 @@ owes-bounded r h = by-stage (eqb (r .stage) billedStage)
 -- 01: 'stages 1 and 2, 0 to 640,000,000,000'
 pub early-bounded : (r : Record) → okRecord r ≡ true → r .stage ≡ bidStage → Range 0 640000000000 (r .requirement)
 early-bounded r h e =
-    let c = clauses r h in
-    pending-range (r .key .kind) (r .requirement) (key-kind (r .key) (c .key)) (pending-fits (r .key .kind) (r .stage) (r .requirement) (c .requirement) (omega arith))
+    pending-wide (r .key .kind) (r .requirement) (pending-fits (r .key .kind) (r .stage) (r .requirement) (clauses r h .requirement) (omega arith))

@@ -1,12 +1,12 @@
 -- The records that a bid and a later stage make keep every clause where what they set keeps its own.
 -- Assumes nothing.
 use mathlib.Core.Path.{_≡_, refl}
-use mathlib.Core.Bool.{Bool, true, false, _&&_, _||_}
+use mathlib.Core.Bool.{Bool, true, _&&_}
 use Prim.Native.Nat.{ℕ}
 use lib.Dec.{leb, leb·zero}
 use lib.IntN.{ℤ}
 use Rattle.kinds.specs.Kinds.{bidStage, postedStage, hasStage, bidMwhFits, differentialFits, pendingFits, rulesOf}
-use Rattle.records.specs.Records.{Key, Record, bidRecord, advanced, implies, keyFits, scheduleFits, dayAheadFits, exemptFits, requirementFits, okRecord}
+use Rattle.records.specs.Records.{Key, Record, bidRecord, advanced, keyFits, scheduleFits, dayAheadFits, exemptFits, requirementFits, okRecord}
 use Rattle.records.proofs.Clauses.{or-right, Clauses, sound}
 
 and-true : (a : Bool) → a ≡ true → (a && true && true) ≡ true
