@@ -1,25 +1,26 @@
 -- Each accepted message asks for a change that fits the record under its key, and leaves a record that keeps every clause of soundness.
 -- Assumes nothing.
 use mathlib.Core.Path.{_≡_, refl, subst}
-use mathlib.Core.Bool.{Bool, true, false, not, cond, _&&_, _||_}
+use mathlib.Core.Bool.{Bool, true, false, cond, _&&_, _||_}
 use mathlib.Core.List.{List}
 use Prim.Native.Nat.{ℕ}
-use lib.Dec.{leb, eqb, leb·zero}
+use lib.Dec.{leb, eqb}
 use lib.IntN.{ℤ}
 use borrow.Author.Tests.{eqb-true, not-false}
 use Rattle.amounts.specs.Limits.{isPrice, isNil, isBill, isSupport}
 use Rattle.refusals.specs.Refusals.{None, accept}
 use Rattle.refusals.proofs.Laws.{and-left, and-both, judge-accept}
-use Rattle.kinds.specs.Kinds.{differentialFits}
-use Rattle.bids.specs.Rows.{pendingFits, bidMwhFits}
+use Rattle.kinds.specs.Kinds.{bidStage, postedStage, finishedStage, billedStage, never as unposted, hasStage, bidMwhFits, differentialFits, pendingFits, rulesOf}
 use Rattle.bids.specs.declared.types.Bid.{Bid}
 use Rattle.bids.proofs.Curves.{bid-bounded, mwh-bounded, fit-bid}
 use Rattle.formulas.proofs.StageLaws.{posted-bounded, finished-bounded}
 use Rattle.records.specs.declared.types.Key.{Key}
 use Rattle.records.specs.declared.types.Record.{Record}
-use Rattle.records.specs.Records.{isFree, implies, keyFits, stageFits, requirementFits, okRecord}
-use Rattle.messages.specs.Plan.{Message, Opening, Posting, Finishing, Deed, Open, Revise, Withdraw, Post, Finish, Bill, Pay, Support, Add, Rebid, Advance, Remove, Keyed, SetSupport, opened, posted, moved, bidFor, postedFor, finishedFor, keyOf, opens, deedFor, planRows, plan}
-use Rattle.records.proofs.Clauses.{sound, or-right}
+use Rattle.records.specs.Records.{isFree, implies, keyFits, requirementFits, okRecord}
+use Rattle.messages.specs.Plan.{Message, Opening, Posting, Finishing, Deed, Open, Revise, Withdraw, Post, Finish, Bill, Pay, Support, Add, Rebid, Advance, Remove, Keyed, SetSupport, openedRecord, postedRecord, laterRecord, bidFor, postedFor, finishedFor, keyOf, opens, deedFor, planRows, plan}
+use Rattle.records.proofs.Keys.{key-kind}
+use Rattle.records.proofs.Made.{bid-ok, advanced-ok}
+use Rattle.messages.proofs.Stages.{finished-next, billed-next}
 use Rattle.messages.proofs.Passed.{BidPassed, Stands, PostPassed, FinishPassed, open-passed, revise-passed, stage-passed, post-passed, finish-passed, bill-passed}
 use Rattle.messages.proofs.Formulas.{bid-passed-is, posted-passed-is, finished-passed-is}
 pub use Rattle.messages.proofs.Tables.{plan-rows-numbered}
@@ -37,15 +38,15 @@ pub record Added (old : Record) (m : Message) (r : Record) : Type 0 where
   pub begins : opens m ≡ true
   pub free : isFree old ≡ true
   pub fine : Fine (keyOf m) r
-  pub bid : r .stage ≡ 1
+  pub bid : r .stage ≡ bidStage
 
 pub record Redone (old : Record) (m : Message) (z : ℤ) (r : Record) : Type 0 where
   pub later : opens m ≡ false
   pub used : isFree old ≡ false
   pub was : z ≡ old .requirement
-  pub stage : old .stage ≡ 1
+  pub stage : old .stage ≡ bidStage
   pub fine : Fine (keyOf m) r
-  pub bid : r .stage ≡ 1
+  pub bid : r .stage ≡ bidStage
 
 pub record Moved (old : Record) (m : Message) (r : Record) : Type 0 where
   pub later : opens m ≡ false
@@ -74,28 +75,18 @@ exempt-only true true = refl
 exempt-only true false = refl
 exempt-only false b = refl
 
-opened-fine : (o : Opening) (bid : Bid) → keyFits (o .key) ≡ true → bidMwhFits (o .key .kind) (bid .mwh) ≡ true
-    → differentialFits (o .key .kind) (o .differential) ≡ true → pendingFits (o .key .kind) (bid .cents) ≡ true → Fine (o .key) (opened o bid)
+opened-fine : (o : Opening) (bid : Bid) → keyFits (o .key) ≡ true → bidMwhFits (rulesOf (o .key .kind)) (bid .mwh) ≡ true
+    → differentialFits (rulesOf (o .key .kind)) (o .differential) ≡ true → pendingFits (rulesOf (o .key .kind)) (bid .cents) ≡ true → Fine (o .key) (openedRecord o bid)
 unfolding isFree
 opened-fine o bid key mwh differential pending =
+    let marks = rulesOf (o .key .kind) .exempts in
     record {
       own = refl;
       used = refl;
-      ok =
-          sound (opened o bid)
-          (record {
-            key = key;
-            stage = or-right (not (eqb (o .key .kind) 3)) true refl;
-            mwh = mwh;
-            schedule = rw (leb·zero (bid .mwh));
-            differential = differential;
-            dayAhead = or-right (eqb (o .key .kind) 1 && leb 2 1) true refl;
-            exempt = exempt-only (o .exempt) (eqb (o .key .kind) 1);
-            requirement = and-true (pendingFits (o .key .kind) (bid .cents)) pending;
-          });
+      ok = bid-ok (o .key) (bid .mwh) (o .differential) (o .exempt && marks) (bid .cents) key mwh differential (exempt-only (o .exempt) marks) pending;
     }
 
-bid-fine : (o : Opening) (ms : List ℕ) (ps : List ℤ) → BidPassed o ms ps → Fine (o .key) (opened o (bidFor o ms ps))
+bid-fine : (o : Opening) (ms : List ℕ) (ps : List ℤ) → BidPassed o ms ps → Fine (o .key) (openedRecord o (bidFor o ms ps))
 unfolding None
 bid-fine o ms ps h =
     rw (bid-passed-is o ms ps h)
@@ -109,72 +100,56 @@ kept-price : (t late : Bool) (new old : ℤ) → isPrice new ≡ true → (isPri
 kept-price true late new old h k = rw h
 kept-price false late new old h k = k
 
-posted-fine : (old : Record) (p : Posting) → PostPassed old p → Fine (p .key) (posted old p (postedFor old p))
+posted-fine : (old : Record) (p : Posting) → PostPassed old p → Fine (p .key) (postedRecord old p (postedFor old p))
 unfolding isFree
 posted-fine old p h =
     let c = h .stands .clauses in
+    let keeps = rulesOf (old .key .kind) .dayahead in
     record {
       own = h .stands .own;
       used = refl;
       ok =
-          sound (posted old p (postedFor old p))
-          (record {
-            key = c .key;
-            stage = rw (h .kind);
-            mwh = c .mwh;
-            schedule = rw (h .schedule, h .kind);
-            differential = c .differential;
-            dayAhead = kept-price (eqb (old .key .kind) 1) (leb 2 (old .stage)) (p .price) (old .price) (h .price) (c .dayAhead);
-            exempt = c .exempt;
-            requirement =
-                rw (posted-passed-is old p h)
-                (and-true _ (posted-bounded (old .key .kind) (old .differential) (old .exempt) (p .schedule) (p .price) (p .second) (h .rows) (h .mwh)));
-          });
+          advanced-ok old postedStage (p .schedule) (cond keeps (p .price) (old .price)) (postedFor old p) c (h .next)
+          (rw (h .schedule, h .posts))
+          (kept-price keeps (leb postedStage (old .stage)) (p .price) (old .price) (h .price) (c .dayAhead))
+          (rw (posted-passed-is old p h)
+          (and-true _ (posted-bounded (old .key .kind) (old .differential) (old .exempt) (p .schedule) (p .price) (p .second) (h .rows) (h .mwh))));
     }
 
 -- a later stage keeps the schedule, and the price that only a posted import has
-late-schedule : (a first hourAhead nil : Bool) → (a && implies (first || hourAhead) nil) ≡ true → (a && implies hourAhead nil) ≡ true
+late-schedule : (a first never nil : Bool) → (a && implies (first || never) nil) ≡ true → (a && implies never nil) ≡ true
 late-schedule a true true nil h = h
 late-schedule a true false nil h = rw (and-left a nil h)
-late-schedule a false hourAhead nil h = h
+late-schedule a false never nil h = h
 
-late-price : (a import late nil : Bool) → (a && (import && late || nil)) ≡ true → (a && (import && true || nil)) ≡ true
+late-price : (a keeps late nil : Bool) → (a && (keeps && late || nil)) ≡ true → (a && (keeps && true || nil)) ≡ true
 late-price a true late nil h = rw (and-left a (late || nil) h)
 late-price a false late nil h = h
 
-moved-fine : (k : Key) (old : Record) (stage : ℕ) (cents : ℤ) → Stands k old → stageFits (moved old stage cents) ≡ true → eqb stage 1 ≡ false → leb 2 stage ≡ true
-    → isFree (moved old stage cents) ≡ false → requirementFits (old .key .kind) stage cents ≡ true → Fine k (moved old stage cents)
-moved-fine k old stage cents s fits first late used requirement =
+later-fine : (k : Key) (old : Record) (stage : ℕ) (cents : ℤ) → Stands k old → hasStage (rulesOf (old .key .kind)) stage ≡ true → eqb stage bidStage ≡ false → leb postedStage stage ≡ true
+    → isFree (laterRecord old stage cents) ≡ false → requirementFits (rulesOf (old .key .kind)) stage cents ≡ true → Fine k (laterRecord old stage cents)
+later-fine k old stage cents s next first late used requirement =
     let c = s .clauses in
-    let schedule = late-schedule (leb (old .schedule) (old .mwh)) (eqb (old .stage) 1) (eqb (old .key .kind) 3) (eqb (old .schedule) 0) (c .schedule) in
-    let price = late-price (isPrice (old .price)) (eqb (old .key .kind) 1) (leb 2 (old .stage)) (isNil (old .price)) (c .dayAhead) in
+    let rules = rulesOf (old .key .kind) in
+    let schedule = late-schedule (leb (old .schedule) (old .mwh)) (eqb (old .stage) bidStage) (eqb (rules .posted) unposted) (eqb (old .schedule) 0) (c .schedule) in
+    let price = late-price (isPrice (old .price)) (rules .dayahead) (leb postedStage (old .stage)) (isNil (old .price)) (c .dayAhead) in
     record {
       own = s .own;
       used = used;
-      ok =
-          sound (moved old stage cents)
-          (record {
-            key = c .key;
-            stage = fits;
-            mwh = c .mwh;
-            schedule = rw first schedule;
-            differential = c .differential;
-            dayAhead = rw late price;
-            exempt = c .exempt;
-            requirement = requirement;
-          });
+      ok = advanced-ok old stage (old .schedule) (old .price) cents c next (rw first schedule) (rw late price) requirement;
     }
 
-finished-fine : (old : Record) (f : Finishing) → FinishPassed old f → Fine (f .key) (moved old 3 (finishedFor old f))
+finished-fine : (old : Record) (f : Finishing) → FinishPassed old f → Fine (f .key) (laterRecord old finishedStage (finishedFor old f))
 unfolding isFree
 finished-fine old f h =
-    moved-fine (f .key) old 3 (finishedFor old f) (h .stands) (or-right (not (eqb (old .key .kind) 3)) true refl) refl refl refl
+    later-fine (f .key) old finishedStage (finishedFor old f) (h .stands)
+    (finished-next (old .key .kind) (key-kind (old .key) (h .stands .clauses .key))) refl refl refl
     (rw (finished-passed-is old f h)
     (and-both _ true (finished-bounded (old .key .kind) (old .exempt) (old .schedule) (old .price) (old .requirement) (f .actual) (f .price) (f .second) (h .rows)) refl))
 
-billed-fine : (k : Key) (old : Record) (cents : ℤ) → Stands k old → isBill cents ≡ true → Fine k (moved old 4 cents)
+billed-fine : (k : Key) (old : Record) (cents : ℤ) → Stands k old → isBill cents ≡ true → Fine k (laterRecord old billedStage cents)
 unfolding isFree
-billed-fine k old cents s h = moved-fine k old 4 cents s (or-right (not (eqb (old .key .kind) 3)) true refl) refl refl refl h
+billed-fine k old cents s h = later-fine k old billedStage cents s (billed-next (rulesOf (old .key .kind))) refl refl refl h
 
 -- ---- each accepted message
 
@@ -184,9 +159,9 @@ deed-fits old (Open o) ms ps u h =
     let a = open-passed old o ms ps h in record { begins = refl; free = a .1; fine = bid-fine o ms ps (a .0); bid = refl }
 deed-fits old (Revise o) ms ps u h =
     let a = revise-passed old o ms ps u h in
-    record { later = refl; used = a .1 .stands .used; was = refl; stage = eqb-true (old .stage) 1 (a .1 .stage); fine = bid-fine o ms ps (a .0); bid = refl }
+    record { later = refl; used = a .1 .stands .used; was = refl; stage = eqb-true (old .stage) bidStage (a .1 .stage); fine = bid-fine o ms ps (a .0); bid = refl }
 deed-fits old (Withdraw k) ms ps u h =
-    record { later = refl; used = stage-passed k old (eqb (old .stage) 1) u h .stands .used; own = refl }
+    record { later = refl; used = stage-passed k old (eqb (old .stage) bidStage) u h .stands .used; own = refl }
 deed-fits old (Post p) ms ps u h =
     let a = post-passed old p ms ps u h in record { later = refl; used = a .stands .used; fine = posted-fine old p a }
 deed-fits old (Finish f) ms ps u h =
@@ -195,7 +170,7 @@ deed-fits old (Bill b) ms ps u h =
     let a = bill-passed (b .key) (b .cents) old u h in
     record { later = refl; used = a .0 .stands .used; fine = billed-fine (b .key) old (b .cents) (a .0 .stands) (a .1) }
 deed-fits old (Pay k) ms ps u h =
-    record { later = refl; used = stage-passed k old (eqb (old .stage) 4) u h .stands .used; own = refl }
+    record { later = refl; used = stage-passed k old (eqb (old .stage) billedStage) u h .stands .used; own = refl }
 deed-fits old (Support s) ms ps u h = not-false (isSupport (s .cents)) (h .0)
 
 pub fits : (old : Record) (m : Message) (ms : List ℕ) (ps : List ℤ) (d : Deed) → Under (keyOf m) old → plan old m ms ps ≡ accept d → Fits old m d

@@ -1,4 +1,5 @@
 pub mod Tables
+pub mod Stages
 pub mod Passed
 pub mod Formulas
 pub mod Fits

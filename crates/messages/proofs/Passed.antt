@@ -1,28 +1,30 @@
 -- What it says of a message and of the record under its key that none of the message's rows applies.
 -- Assumes nothing.
 use mathlib.Core.Path.{_≡_, refl, sym, ap, _∙_}
-use mathlib.Core.Bool.{Bool, true, false, not, cond, _&&_, _||_}
+use mathlib.Core.Bool.{Bool, true, false, not, _&&_, _||_}
 use mathlib.Core.List.{List, [], _∷_, _++_}
 use mathlib.Core.Logic.{_⊎_, inl, inr, ⊎-elim}
 use Prim.Native.Nat.{ℕ, _≤_}
 use native.Mathlib.Omega.{arith}
 use lib.Dec.{leb, eqb}
 use lib.IntN.{ℤ}
-use borrow.Author.Tests.{leb-true, le-leb, eqb-true, not-true, not-false}
+use borrow.Author.Tests.{leb-true, eqb-true, not-false}
 use Rattle.amounts.specs.Limits.{isQuantity, isPrice, isNil, isBill}
 use Rattle.refusals.specs.Refusals.{row, None}
-use Rattle.refusals.proofs.Laws.{never, and-left, and-right, and-both, none-split}
-use Rattle.kinds.specs.Kinds.{isKind, kindRow}
-use Rattle.bids.specs.Rows.{isPointMwh, bidMwhFits, bidRows}
-use Rattle.deliveries.specs.Rows.{pricesFit, deliveryRows, postedRows, finishedRows, billRows}
+use Rattle.refusals.proofs.Laws.{never, and-left, and-both, none-split}
+use Rattle.kinds.specs.Kinds.{isKind, kindRow, isPath, bidMwhFits, pricesFit, hasStage, rulesOf, bidStage, postedStage, never as unposted}
+use Rattle.bids.specs.Rows.{bidRows}
+use Rattle.formulas.specs.Rows.{deliveryRows, postedRows, finishedRows, billRows}
 use Rattle.records.specs.declared.types.Key.{Key}
 use Rattle.records.specs.declared.types.Record.{Record}
-use Rattle.records.specs.Records.{blank, isFree, at, okPlace, isPath, isHour, keyFits, implies, okRecord}
+use Rattle.records.specs.Records.{blank, isFree, at, okPlace, isHour, keyFits, implies, okRecord}
 use Rattle.records.specs.Records.{keyRows}
-use Rattle.messages.specs.Plan.{Opening, Posting, Finishing, Open, Revise, Post, Finish, stageRows, beforeFinish, planRows}
+use Rattle.messages.specs.Plan.{Opening, Posting, Finishing, Open, Revise, Post, Finish, stageRows, planRows}
+use Rattle.kinds.proofs.Fits.{prices as priced}
 use Rattle.records.proofs.Clauses.{Clauses, clauses}
-use Rattle.records.proofs.Keys.{free-blank, at-key, at-used, place-used}
+use Rattle.records.proofs.Keys.{key-kind, free-blank, at-key, at-used, place-used}
 use Rattle.records.proofs.Bounds.{pending-fits}
+use Rattle.messages.proofs.Stages.{posted-next, finished-from, mwh-quantity, schedule-fits}
 
 -- ---- the record under a key: blank, or a sound record of that key
 abbrev pub Under : Key → Record → Type 0
@@ -51,13 +53,10 @@ stands k old u e =
 key-passed : (k : Key) → None (keyRows k) → keyFits k ≡ true
 unfolding None keyRows
 key-passed k h =
-    and-both (isKind (k .kind) && isPath (k .path)) (isHour (k .hour))
-    (and-both (isKind (k .kind)) (isPath (k .path)) (not-false (isKind (k .kind)) (h .0)) (not-false (isPath (k .path)) (h .1 .0)))
+    let path = isPath (rulesOf (k .kind)) (k .path) in
+    and-both (isKind (k .kind) && path) (isHour (k .hour))
+    (and-both (isKind (k .kind)) path (not-false (isKind (k .kind)) (h .0)) (not-false path (h .1 .0)))
     (not-false (isHour (k .hour)) (h .1 .1 .0))
-
-pub kind-passed : (k : Key) → keyFits k ≡ true → isKind (k .kind) ≡ true
-kind-passed k h =
-    and-left (isKind (k .kind)) (isPath (k .path)) (and-left (isKind (k .kind) && isPath (k .path)) (isHour (k .hour)) h)
 
 pub record StagePassed (k : Key) (old : Record) (right : Bool) : Type 0 where
   pub key : keyFits k ≡ true
@@ -80,7 +79,7 @@ pub record BidPassed (o : Opening) (ms : List ℕ) (ps : List ℤ) : Type 0 wher
 
 bid-rows : (o : Opening) (ms : List ℕ) (ps : List ℤ) → None (keyRows (o .key)) → None (bidRows (o .key .kind) ms ps (o .differential)) → BidPassed o ms ps
 unfolding None
-bid-rows o ms ps h b = let key = key-passed (o .key) h in record { key = key; rows = (ap not (kind-passed (o .key) key), b) }
+bid-rows o ms ps h b = let key = key-passed (o .key) h in record { key = key; rows = (ap not (key-kind (o .key) key), b) }
 
 pub open-passed : (old : Record) (o : Opening) (ms : List ℕ) (ps : List ℤ) → None (planRows old (Open o) ms ps) → BidPassed o ms ps × (isFree old ≡ true)
 unfolding None
@@ -92,102 +91,88 @@ open-passed old o ms ps h =
     (bid-rows o ms ps (a .0) (b .0), not-false (isFree old) (b .1 .0))
 
 pub revise-passed : (old : Record) (o : Opening) (ms : List ℕ) (ps : List ℤ) → Under (o .key) old → None (planRows old (Revise o) ms ps)
-    → BidPassed o ms ps × StagePassed (o .key) old (eqb (old .stage) 1)
+    → BidPassed o ms ps × StagePassed (o .key) old (eqb (old .stage) bidStage)
 revise-passed old o ms ps u h =
     let bid = bidRows (o .key .kind) ms ps (o .differential) in
-    let stage = stageRows old (eqb (old .stage) 1) in
+    let stage = stageRows old (eqb (old .stage) bidStage) in
     let a = none-split (keyRows (o .key)) (bid ++ stage) h in
     let b = none-split bid stage (a .1) in
     let passed = bid-rows o ms ps (a .0) (b .0) in
-    (passed, stage-rows (o .key) old (eqb (old .stage) 1) (passed .key) u (b .1))
-
--- 'schedule is at most bid MWh', so it is no more than bid MWh can be
-schedule-fits : (kind mwh schedule : ℕ) → bidMwhFits kind mwh ≡ true → schedule ≤ mwh → bidMwhFits kind schedule ≡ true
-schedule-fits kind mwh schedule h le =
-    let most = le-leb schedule 640000 (omega (arith, leb-true mwh 640000 (and-left (isQuantity mwh) (implies (eqb kind 1 || eqb kind 4) (isPointMwh mwh)) h))) in
-    and-both (isQuantity schedule) (implies (eqb kind 1 || eqb kind 4) (isPointMwh schedule)) most
-    (by-test (eqb kind 1 || eqb kind 4) (and-right (isQuantity mwh) (implies (eqb kind 1 || eqb kind 4) (isPointMwh mwh)) h))
-  where
-    by-test : (t : Bool) → implies t (isPointMwh mwh) ≡ true → implies t (isPointMwh schedule) ≡ true
-    by-test true h = le-leb schedule 10000 (omega (arith, leb-true mwh 10000 h))
-    by-test false h = refl
+    (passed, stage-rows (o .key) old (eqb (old .stage) bidStage) (passed .key) u (b .1))
 
 pub record PostPassed (old : Record) (p : Posting) : Type 0 where
   pub stands : Stands (p .key) old
-  pub stage : old .stage ≡ 1
-  pub kind : eqb (old .key .kind) 3 ≡ false
+  pub posts : eqb (rulesOf (old .key .kind) .posted) unposted ≡ false
+  pub next : hasStage (rulesOf (old .key .kind)) postedStage ≡ true
   pub schedule : leb (p .schedule) (old .mwh) ≡ true
-  pub mwh : bidMwhFits (old .key .kind) (p .schedule) ≡ true
+  pub mwh : bidMwhFits (rulesOf (old .key .kind)) (p .schedule) ≡ true
   pub price : isPrice (p .price) ≡ true
   pub rows : None (kindRow (old .key .kind) ∷ postedRows (old .key .kind) (old .differential) (p .schedule) (p .price) (p .second))
+
+-- no open record stands at the stage of what is never posted
+open-stage : (old : Record) (stage : ℕ) → isFree old ≡ false → eqb (old .stage) stage ≡ true → eqb stage unposted ≡ false
+unfolding isFree
+open-stage old stage used e = rw (← eqb-true (old .stage) stage e) used
 
 pub post-passed : (old : Record) (p : Posting) (ms : List ℕ) (ps : List ℤ) → Under (p .key) old → None (planRows old (Post p) ms ps) → PostPassed old p
 unfolding None keyRows deliveryRows stageRows postedRows
 post-passed old p ms ps u h =
     let s = stands (p .key) old u (h .1 .1 .1 .1 .1 .0) in
     let own : old .key .kind ≡ p .key .kind = ap (λ (k : Key). k .kind) (s .own) in
-    let right = not-false (eqb (old .stage) 1 && not (eqb (p .key .kind) 3)) (h .1 .1 .1 .1 .1 .1 .0) in
-    let other : eqb (old .key .kind) 3 ≡ false = rw own (not-true (eqb (p .key .kind) 3) (and-right (eqb (old .stage) 1) (not (eqb (p .key .kind) 3)) right)) in
+    let kind = key-kind (old .key) (s .clauses .key) in
+    let right = not-false (eqb (old .stage) (rulesOf (p .key .kind) .posted)) (h .1 .1 .1 .1 .1 .1 .0) in
+    let posts : eqb (rulesOf (old .key .kind) .posted) unposted ≡ false = rw own (open-stage old (rulesOf (p .key .kind) .posted) (s .used) right) in
     let most = not-false (leb (p .schedule) (old .mwh)) (h .1 .1 .1 .1 .1 .1 .1 .0) in
-    let prices : pricesFit (old .key .kind) (p .price) (p .second) ≡ true = rw own (not-false (pricesFit (p .key .kind) (p .price) (p .second)) (h .1 .1 .1 .1 .0)) in
+    let prices : pricesFit (rulesOf (old .key .kind)) (p .price) (p .second) ≡ true =
+    rw own (not-false (pricesFit (rulesOf (p .key .kind)) (p .price) (p .second)) (h .1 .1 .1 .1 .0)) in
     record {
       stands = s;
-      stage = eqb-true (old .stage) 1 (and-left (eqb (old .stage) 1) (not (eqb (p .key .kind) 3)) right);
-      kind = other;
+      posts = posts;
+      next = posted-next (old .key .kind) kind posts;
       schedule = most;
-      mwh = schedule-fits (old .key .kind) (old .mwh) (p .schedule) (s .clauses .mwh) (leb-true (p .schedule) (old .mwh) most);
-      price =
-          and-left (isPrice (p .price)) (isPrice (p .second))
-          (and-left (isPrice (p .price) && isPrice (p .second)) (eqb (old .key .kind) 4 || isNil (p .second)) prices);
+      mwh = schedule-fits (rulesOf (old .key .kind)) (old .mwh) (p .schedule) (s .clauses .mwh) (leb-true (p .schedule) (old .mwh) most);
+      price = priced (rulesOf (old .key .kind)) (p .price) (p .second) prices .first;
       rows =
-          (ap not (kind-passed (old .key) (s .clauses .key)), (h .1 .1 .1 .0, (ap not prices, (ap not (s .clauses .differential), (other, tt)))));
+          (ap not kind, (h .1 .1 .1 .0, (ap not prices, (ap not (s .clauses .differential), (posts, tt)))));
     }
 
 pub record FinishPassed (old : Record) (f : Finishing) : Type 0 where
   pub stands : Stands (f .key) old
-  pub stage : old .stage ≡ beforeFinish (old .key .kind)
   pub rows : None (kindRow (old .key .kind) ∷ finishedRows (old .key .kind) (old .schedule) (old .price) (old .requirement) (f .actual) (f .price) (f .second))
-
-before-finish : (kind : ℕ) → beforeFinish kind ≤ 2
-before-finish kind = by-test (eqb kind 3)
-  where
-    by-test : (t : Bool) → cond t 1 2 ≤ 2
-    by-test true = omega arith
-    by-test false = omega arith
 
 pub finish-passed : (old : Record) (f : Finishing) (ms : List ℕ) (ps : List ℤ) → Under (f .key) old → None (planRows old (Finish f) ms ps) → FinishPassed old f
 unfolding None keyRows deliveryRows stageRows finishedRows
 finish-passed old f ms ps u h =
     let s = stands (f .key) old u (h .1 .1 .1 .1 .1 .0) in
     let own : old .key .kind ≡ f .key .kind = ap (λ (k : Key). k .kind) (s .own) in
-    let right : old .stage ≡ beforeFinish (old .key .kind) =
-    rw own (eqb-true (old .stage) (beforeFinish (f .key .kind)) (not-false (eqb (old .stage) (beforeFinish (f .key .kind))) (h .1 .1 .1 .1 .1 .1 .0))) in
-    let prices : pricesFit (old .key .kind) (f .price) (f .second) ≡ true = rw own (not-false (pricesFit (f .key .kind) (f .price) (f .second)) (h .1 .1 .1 .1 .0)) in
-    let early : old .stage ≤ 2 = omega (arith, right, before-finish (old .key .kind)) in
+    let kind = key-kind (old .key) (s .clauses .key) in
+    let rules = rulesOf (old .key .kind) in
+    let right : eqb (old .stage) (rulesOf (old .key .kind) .finished) ≡ true =
+    rw own (not-false (eqb (old .stage) (rulesOf (f .key .kind) .finished)) (h .1 .1 .1 .1 .1 .1 .0)) in
+    let prices : pricesFit (rulesOf (old .key .kind)) (f .price) (f .second) ≡ true =
+    rw own (not-false (pricesFit (rulesOf (f .key .kind)) (f .price) (f .second)) (h .1 .1 .1 .1 .0)) in
+    let early : old .stage ≤ postedStage = omega (arith, eqb-true (old .stage) (rulesOf (old .key .kind) .finished) right, finished-from (old .key .kind) kind) in
     let pending = pending-fits (old .key .kind) (old .stage) (old .requirement) (s .clauses .requirement) early in
-    let above = implies (eqb (old .stage) 1 || eqb (old .key .kind) 3) (eqb (old .schedule) 0) in
-    let most = and-left (leb (old .schedule) (old .mwh)) above (s .clauses .schedule) in
-    let schedule =
-    and-left (isQuantity (old .schedule)) (implies (eqb (old .key .kind) 1 || eqb (old .key .kind) 4) (isPointMwh (old .schedule)))
-    (schedule-fits (old .key .kind) (old .mwh) (old .schedule) (s .clauses .mwh) (leb-true (old .schedule) (old .mwh) most)) in
+    let unset = implies (eqb (old .stage) bidStage || eqb (rules .posted) unposted) (eqb (old .schedule) 0) in
+    let most = leb-true (old .schedule) (old .mwh) (and-left (leb (old .schedule) (old .mwh)) unset (s .clauses .schedule)) in
+    let schedule = mwh-quantity (old .key .kind) (old .schedule) (schedule-fits rules (old .mwh) (old .schedule) (s .clauses .mwh) most) in
     let actual = not-false (isQuantity (f .actual)) (h .1 .1 .1 .0) in
-    let price = and-left (isPrice (old .price)) (eqb (old .key .kind) 1 && leb 2 (old .stage) || isNil (old .price)) (s .clauses .dayAhead) in
+    let price = and-left (isPrice (old .price)) (rules .dayahead && leb postedStage (old .stage) || isNil (old .price)) (s .clauses .dayAhead) in
     record {
       stands = s;
-      stage = right;
       rows = (
-        ap not (kind-passed (old .key) (s .clauses .key)),
+        ap not kind,
         (
           ap not (and-both (isQuantity (old .schedule)) (isQuantity (f .actual)) schedule actual),
-          (ap not (and-both (isPrice (old .price)) (pricesFit (old .key .kind) (f .price) (f .second)) price prices), (ap not pending, tt)),
+          (ap not (and-both (isPrice (old .price)) (pricesFit rules (f .price) (f .second)) price prices), (ap not pending, tt)),
         ),
       );
     }
 
-pub bill-passed : (k : Key) (cents : ℤ) (old : Record) → Under k old → None (keyRows k ++ (billRows cents ++ stageRows old (eqb (old .stage) 3)))
-    → StagePassed k old (eqb (old .stage) 3) × (isBill cents ≡ true)
+pub bill-passed : (k : Key) (cents : ℤ) (old : Record) → Under k old → None (keyRows k ++ (billRows cents ++ stageRows old (eqb (old .stage) (rulesOf (k .kind) .billed))))
+    → StagePassed k old (eqb (old .stage) (rulesOf (k .kind) .billed)) × (isBill cents ≡ true)
 unfolding None billRows
 bill-passed k cents old u h =
-    let stage = stageRows old (eqb (old .stage) 3) in
-    let a = none-split (keyRows k) (billRows cents ++ stage) h in
-    (stage-rows k old (eqb (old .stage) 3) (key-passed k (a .0)) u (a .1 .1), not-false (isBill cents) (a .1 .0))
+    let right = eqb (old .stage) (rulesOf (k .kind) .billed) in
+    let a = none-split (keyRows k) (billRows cents ++ stageRows old right) h in
+    (stage-rows k old right (key-passed k (a .0)) u (a .1 .1), not-false (isBill cents) (a .1 .0))

@@ -1,7 +1,7 @@
 -- The table of each message: no row has the number 0, and its parts stand one below the other.
 -- Assumes nothing.
 use mathlib.Core.Path.{_≡_, refl, sym, ap, _∙_}
-use mathlib.Core.Bool.{Bool, true, false, not, cond, _&&_}
+use mathlib.Core.Bool.{Bool, true, false, not, cond}
 use mathlib.Core.List.{List, [], _∷_, _++_}
 use Prim.Native.Nat.{ℕ}
 use lib.Dec.{leb, eqb}
@@ -10,19 +10,17 @@ use borrow.Author.Tests.{eqb-true}
 use Rattle.refusals.specs.Refusals.{Row, row, first, refuse, accept, answered, judge, orElse, numbered}
 use Rattle.refusals.proofs.Laws.{first-append, numbered-append}
 use Rattle.bids.specs.Rows.{bidRows}
-use Rattle.deliveries.specs.Rows.{deliveryRows, billRows}
+use Rattle.formulas.specs.Rows.{deliveryRows, billRows}
 use Rattle.bids.specs.declared.types.Bid.{Bid}
-use Rattle.refusals.specs.Figures.{refusalOf, figure}
-use Rattle.kinds.specs.Kinds.{isKind, kindRow}
+use Rattle.kinds.specs.Kinds.{isKind, kindRow, rulesOf, bidStage, billedStage}
 use Rattle.bids.specs.Entries.{bidRefusalOf, bidAnswer, bidVerdict}
-use Rattle.formulas.specs.Entries.{billedVerdict}
 use Rattle.bids.proofs.Curves.{bid-rows-numbered}
-use Rattle.deliveries.proofs.Numbered.{delivery-rows-numbered, bill-rows-numbered}
+use Rattle.formulas.proofs.Numbered.{delivery-rows-numbered, bill-rows-numbered}
 use Rattle.records.specs.declared.types.Key.{Key}
 use Rattle.records.specs.declared.types.Record.{Record}
 use Rattle.records.specs.Records.{isFree}
 use Rattle.records.specs.Records.{keyRows}
-use Rattle.messages.specs.Plan.{Message, Opening, Open, Revise, Withdraw, Post, Finish, Bill, Pay, Support, stageRows, beforeFinish, planRows}
+use Rattle.messages.specs.Plan.{Message, Opening, Open, Revise, Withdraw, Post, Finish, Bill, Pay, Support, stageRows, planRows}
 
 -- ---- no row has the number 0
 key-rows-numbered : (k : Key) → numbered (keyRows k) ≡ true
@@ -45,12 +43,12 @@ plan-rows-numbered old (Open o) ms ps =
 plan-rows-numbered old (Revise o) ms ps =
     let bid = bidRows (o .key .kind) ms ps (o .differential) in
     numbered-append (keyRows (o .key)) _ (key-rows-numbered (o .key))
-    (numbered-append bid _ (bid-rows-numbered (o .key .kind) ms ps (o .differential)) (stage-rows-numbered old (eqb (old .stage) 1)))
+    (numbered-append bid _ (bid-rows-numbered (o .key .kind) ms ps (o .differential)) (stage-rows-numbered old (eqb (old .stage) bidStage)))
 plan-rows-numbered old (Withdraw k) ms ps =
-    numbered-append (keyRows k) _ (key-rows-numbered k) (stage-rows-numbered old (eqb (old .stage) 1))
+    numbered-append (keyRows k) _ (key-rows-numbered k) (stage-rows-numbered old (eqb (old .stage) bidStage))
 plan-rows-numbered old (Post p) ms ps =
     let delivery = deliveryRows (p .key .kind) (p .schedule) (p .price) (p .second) in
-    let stage = eqb (old .stage) 1 && not (eqb (p .key .kind) 3) in
+    let stage = eqb (old .stage) (rulesOf (p .key .kind) .posted) in
     numbered-append (keyRows (p .key)) _ (key-rows-numbered (p .key))
     (numbered-append delivery _ (delivery-rows-numbered (p .key .kind) (p .schedule) (p .price) (p .second))
     (numbered-append (stageRows old stage) _ (stage-rows-numbered old stage) (one-numbered 13 (not (leb (p .schedule) (old .mwh))) refl)))
@@ -58,11 +56,11 @@ plan-rows-numbered old (Finish f) ms ps =
     let delivery = deliveryRows (f .key .kind) (f .actual) (f .price) (f .second) in
     numbered-append (keyRows (f .key)) _ (key-rows-numbered (f .key))
     (numbered-append delivery _ (delivery-rows-numbered (f .key .kind) (f .actual) (f .price) (f .second))
-    (stage-rows-numbered old (eqb (old .stage) (beforeFinish (f .key .kind)))))
+    (stage-rows-numbered old (eqb (old .stage) (rulesOf (f .key .kind) .finished))))
 plan-rows-numbered old (Bill b) ms ps =
     numbered-append (keyRows (b .key)) _ (key-rows-numbered (b .key))
-    (numbered-append (billRows (b .cents)) _ (bill-rows-numbered (b .cents)) (stage-rows-numbered old (eqb (old .stage) 3)))
-plan-rows-numbered old (Pay k) ms ps = numbered-append (keyRows k) _ (key-rows-numbered k) (stage-rows-numbered old (eqb (old .stage) 4))
+    (numbered-append (billRows (b .cents)) _ (bill-rows-numbered (b .cents)) (stage-rows-numbered old (eqb (old .stage) (rulesOf (b .key .kind) .billed))))
+plan-rows-numbered old (Pay k) ms ps = numbered-append (keyRows k) _ (key-rows-numbered k) (stage-rows-numbered old (eqb (old .stage) billedStage))
 plan-rows-numbered old (Support s) ms ps = one-numbered 9 _ refl
 
 -- ---- one table below another, by what each gives
@@ -79,18 +77,10 @@ stage-above old right rest = first-append (stageRows old right) rest (stage-rows
 pub delivery-above : (kind mwh : ℕ) (price second : ℤ) (rest : List Row) → first (deliveryRows kind mwh price second ++ rest) ≡ orElse (first (deliveryRows kind mwh price second)) (first rest)
 delivery-above kind mwh price second rest = first-append (deliveryRows kind mwh price second) rest (delivery-rows-numbered kind mwh price second)
 
--- ---- the number that an entry of the formula library answers
-figure-by : (t : Bool) (n : ℕ) (cents : ℤ) → eqb n 0 ≡ t → refusalOf (figure (cond t (accept cents) (refuse n))) ≡ n
-figure-by true n cents e = sym (eqb-true n 0 e)
-figure-by false n cents e = refl
+pub bill-above : (cents : ℤ) (rest : List Row) → first (billRows cents ++ rest) ≡ orElse (first (billRows cents)) (first rest)
+bill-above cents rest = first-append (billRows cents) rest (bill-rows-numbered cents)
 
-pub bill-refusal : (cents : ℤ) → refusalOf (figure (billedVerdict cents)) ≡ first (billRows cents)
-unfolding billedVerdict judge answered
-bill-refusal cents = figure-by (eqb (first (billRows cents)) 0) (first (billRows cents)) cents refl
-
-pub bill-above : (cents : ℤ) (rest : List Row) → first (billRows cents ++ rest) ≡ orElse (refusalOf (figure (billedVerdict cents))) (first rest)
-bill-above cents rest = first-append (billRows cents) rest (bill-rows-numbered cents) ∙ ap (λ (n : ℕ). orElse n (first rest)) (sym (bill-refusal cents))
-
+-- ---- the number that the library's bid answers
 bid-by : (t : Bool) (n : ℕ) (bid : Bid) → eqb n 0 ≡ t → bidRefusalOf (bidAnswer (cond t (accept bid) (refuse n))) ≡ n
 bid-by true n bid e = sym (eqb-true n 0 e)
 bid-by false n bid e = refl
@@ -125,5 +115,5 @@ pub open-table : (old : Record) (o : Opening) (ms : List ℕ) (ps : List ℤ) �
 open-table old o ms ps =
     let free = row 10 (not (isFree old)) ∷ [] in sym (bid-above o ms ps free ∙ ap (λ (n : ℕ). orElse (first (keyRows (o .key))) (orElse (bidNumber o ms ps) n)) (last-row 10 (not (isFree old))))
 
-pub revise-table : (old : Record) (o : Opening) (ms : List ℕ) (ps : List ℤ) → orElse (first (keyRows (o .key))) (orElse (bidNumber o ms ps) (first (stageRows old (eqb (old .stage) 1)))) ≡ first (planRows old (Revise o) ms ps)
-revise-table old o ms ps = sym (bid-above o ms ps (stageRows old (eqb (old .stage) 1)))
+pub revise-table : (old : Record) (o : Opening) (ms : List ℕ) (ps : List ℤ) → orElse (first (keyRows (o .key))) (orElse (bidNumber o ms ps) (first (stageRows old (eqb (old .stage) bidStage)))) ≡ first (planRows old (Revise o) ms ps)
+revise-table old o ms ps = sym (bid-above o ms ps (stageRows old (eqb (old .stage) bidStage)))

@@ -5,11 +5,12 @@ use mathlib.Core.Bool.{Bool, true, false, _&&_, not, cond}
 use mathlib.Core.List.{List, [], _∷_, _++_}
 use Prim.Native.Nat.{ℕ}
 use lib.Dec.{leb, eqb}
-use lib.IntN.{ℤ, pos}
+use lib.IntN.{ℤ}
 use Rattle.amounts.specs.Limits.{isSupport}
 use Rattle.refusals.specs.Refusals.{Row, row, Verdict, refuse, accept, judge}
+use Rattle.kinds.specs.Kinds.{rulesOf, bidStage, postedStage, finishedStage, billedStage}
 use Rattle.bids.specs.Rows.{bidRows}
-use Rattle.deliveries.specs.Rows.{deliveryRows, billRows}
+use Rattle.formulas.specs.Rows.{deliveryRows, billRows}
 use Rattle.bids.specs.declared.types.Bid.{Bid}
 use Rattle.refusals.specs.Figures.{figure, centsOf}
 use Rattle.bids.specs.Entries.{bidAnswer, bidOf, bidVerdict}
@@ -27,51 +28,21 @@ pub use Rattle.messages.specs.declared.types.Deed.the-variants.{Keyed, S
 use Rattle.messages.specs.declared.types.Planned.the-variants.{Refused, Asks}
 use Rattle.records.specs.declared.types.Key.{Key}
 use Rattle.records.specs.declared.types.Record.{Record}
-use Rattle.records.specs.Records.{blank, isFree, keyRows}
+use Rattle.records.specs.Records.{blank, bidRecord, advanced, isFree, keyRows}
 
--- ---- the record of each stage. 01: 'Fields that a message doesn't set keep their values'
+-- ---- the record of each stage
 
 -- 'Open makes stage 1'; 'The exempt mark is ignored for kinds 2 to 4'
-abbrev pub opened : Opening → Bid → Record
-opened o bid =
-    record {
-      key = o .key;
-      stage = 1;
-      mwh = bid .mwh;
-      differential = o .differential;
-      exempt = o .exempt && eqb (o .key .kind) 1;
-      schedule = 0;
-      price = pos 0;
-      requirement = bid .cents;
-    }
+abbrev pub openedRecord : Opening → Bid → Record
+openedRecord o bid = bidRecord (o .key) (bid .mwh) (o .differential) (o .exempt && rulesOf (o .key .kind) .exempts) (bid .cents)
 
 -- 'Post keeps the schedule and, for kind 1, the first price'
-abbrev pub posted : Record → Posting → ℤ → Record
-posted r p cents =
-    record {
-      key = r .key;
-      stage = 2;
-      mwh = r .mwh;
-      differential = r .differential;
-      exempt = r .exempt;
-      schedule = p .schedule;
-      price = cond (eqb (r .key .kind) 1) (p .price) (r .price);
-      requirement = cents;
-    }
+abbrev pub postedRecord : Record → Posting → ℤ → Record
+postedRecord old p cents = advanced old postedStage (p .schedule) (cond (rulesOf (old .key .kind) .dayahead) (p .price) (old .price)) cents
 
 -- finish and bill: 'actual and real-time values aren't kept'
-abbrev pub moved : Record → ℕ → ℤ → Record
-moved r stage cents =
-    record {
-      key = r .key;
-      stage = stage;
-      mwh = r .mwh;
-      differential = r .differential;
-      exempt = r .exempt;
-      schedule = r .schedule;
-      price = r .price;
-      requirement = cents;
-    }
+abbrev pub laterRecord : Record → ℕ → ℤ → Record
+laterRecord old stage cents = advanced old stage (old .schedule) (old .price) cents
 
 -- ---- the amounts, by the formula library's answers
 
@@ -110,12 +81,12 @@ opens (Pay k) = false
 opens (Support s) = false
 
 abbrev pub deedFor : Record → Message → List ℕ → List ℤ → Deed
-deedFor old (Open o) mwhs prices = Keyed (Add (opened o (bidFor o mwhs prices)))
-deedFor old (Revise o) mwhs prices = Keyed (Rebid (old .requirement) (opened o (bidFor o mwhs prices)))
+deedFor old (Open o) mwhs prices = Keyed (Add (openedRecord o (bidFor o mwhs prices)))
+deedFor old (Revise o) mwhs prices = Keyed (Rebid (old .requirement) (openedRecord o (bidFor o mwhs prices)))
 deedFor old (Withdraw k) mwhs prices = Keyed (Remove k)
-deedFor old (Post p) mwhs prices = Keyed (Advance (posted old p (postedFor old p)))
-deedFor old (Finish f) mwhs prices = Keyed (Advance (moved old 3 (finishedFor old f)))
-deedFor old (Bill b) mwhs prices = Keyed (Advance (moved old 4 (b .cents)))
+deedFor old (Post p) mwhs prices = Keyed (Advance (postedRecord old p (postedFor old p)))
+deedFor old (Finish f) mwhs prices = Keyed (Advance (laterRecord old finishedStage (finishedFor old f)))
+deedFor old (Bill b) mwhs prices = Keyed (Advance (laterRecord old billedStage (b .cents)))
 deedFor old (Pay k) mwhs prices = Keyed (Remove k)
 deedFor old (Support s) mwhs prices = SetSupport (s .cents)
 
@@ -125,21 +96,18 @@ deedFor old (Support s) mwhs prices = SetSupport (s .cents)
 unfoldable pub stageRows : Record → Bool → List Row
 stageRows old right = row 11 (isFree old) ∷ row 12 (not right) ∷ []
 
--- 'Finish goes from 2 to 3, for kind 3 from 1 to 3'
-abbrev pub beforeFinish : ℕ → ℕ
-beforeFinish kind = cond (eqb kind 3) 1 2
-
+-- the stage that each is sent from is its kind's: 'Post goes from 1 to 2 and is not for kind 3', 'Finish goes from 2 to 3, for kind 3 from 1 to 3'
 abbrev pub planRows : Record → Message → List ℕ → List ℤ → List Row
 planRows old (Open o) mwhs prices = keyRows (o .key) ++ (bidRows (o .key .kind) mwhs prices (o .differential) ++ (row 10 (not (isFree old)) ∷ []))
-planRows old (Revise o) mwhs prices = keyRows (o .key) ++ (bidRows (o .key .kind) mwhs prices (o .differential) ++ stageRows old (eqb (old .stage) 1))
-planRows old (Withdraw k) mwhs prices = keyRows k ++ stageRows old (eqb (old .stage) 1)
+planRows old (Revise o) mwhs prices = keyRows (o .key) ++ (bidRows (o .key .kind) mwhs prices (o .differential) ++ stageRows old (eqb (old .stage) bidStage))
+planRows old (Withdraw k) mwhs prices = keyRows k ++ stageRows old (eqb (old .stage) bidStage)
 planRows old (Post p) mwhs prices =
     keyRows (p .key) ++ (deliveryRows (p .key .kind) (p .schedule) (p .price) (p .second)
-    ++ (stageRows old (eqb (old .stage) 1 && not (eqb (p .key .kind) 3)) ++ (row 13 (not (leb (p .schedule) (old .mwh))) ∷ [])))
+    ++ (stageRows old (eqb (old .stage) (rulesOf (p .key .kind) .posted)) ++ (row 13 (not (leb (p .schedule) (old .mwh))) ∷ [])))
 planRows old (Finish f) mwhs prices =
-    keyRows (f .key) ++ (deliveryRows (f .key .kind) (f .actual) (f .price) (f .second) ++ stageRows old (eqb (old .stage) (beforeFinish (f .key .kind))))
-planRows old (Bill b) mwhs prices = keyRows (b .key) ++ (billRows (b .cents) ++ stageRows old (eqb (old .stage) 3))
-planRows old (Pay k) mwhs prices = keyRows k ++ stageRows old (eqb (old .stage) 4)
+    keyRows (f .key) ++ (deliveryRows (f .key .kind) (f .actual) (f .price) (f .second) ++ stageRows old (eqb (old .stage) (rulesOf (f .key .kind) .finished)))
+planRows old (Bill b) mwhs prices = keyRows (b .key) ++ (billRows (b .cents) ++ stageRows old (eqb (old .stage) (rulesOf (b .key .kind) .billed)))
+planRows old (Pay k) mwhs prices = keyRows k ++ stageRows old (eqb (old .stage) billedStage)
 planRows old (Support s) mwhs prices = row 9 (not (isSupport (s .cents))) ∷ []
 
 unfoldable pub plan : Record → Message → List ℕ → List ℤ → Verdict Deed

@@ -1,13 +1,13 @@
 // What each later message, and a support change, asks of the record under its key, or refusals 2 to 13. `old` is that record, blank where the key is not open.
 mod bills;
-mod drops;
 mod finishes;
+mod frees;
 mod posts;
 mod supports;
 
 pub use bills::bill;
-pub use drops::pay;
-pub use drops::withdraw;
 pub use finishes::finish;
+pub use frees::pay;
+pub use frees::withdraw;
 pub use posts::post;
 pub use supports::support;

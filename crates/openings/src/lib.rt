@@ -1,7 +1,9 @@
 // What an open and a revise ask of the record under their key, or refusals 2 to 12. `old` is that record, blank where the key is not open.
 ghost use mathlib.Core.Path.{_≡_};
-ghost use Rattle.messages.specs.Plan.{opened, plan, planned};
+ghost use Rattle.messages.specs.Plan.{openedRecord, plan, planned};
 use bids::types::Bid;
+use kinds::Kind;
+use kinds::Stage;
 use messages::answer;
 use messages::stage_refusal;
 use messages::types::Change;
@@ -9,26 +11,25 @@ use messages::types::Deed;
 use messages::types::Message;
 use messages::types::Opening;
 use messages::types::Planned;
-use records::types::Key;
 use records::types::Record;
 use refusals::or_else;
 use refusals::pick;
 
 // The record at stage 1.
-fn opened(opening: Opening, bid: Bid) -> Record
-    ensures { λ r. ⌜ r ≡ opened opening bid ⌝ }
+fn opened_record(opening: Opening, bid: Bid) -> Record
+    ensures { λ r. ⌜ r ≡ openedRecord opening bid ⌝ }
 {
-    let key = opening.key;
-    Record {
-        key,
-        stage: Record::BID,
-        mwh: bid.mwh,
-        differential: opening.differential,
-        exempt: opening.exempt & (opening.key.kind == Key::IMPORT),
-        schedule: 0,
-        price: 0,
-        requirement: bid.cents,
-    }
+    let rules = Kind {
+        number: opening.key.kind,
+    }.rules();
+    let exempt = opening.exempt & rules.exempts;
+    Record::bid(
+        opening.key,
+        bid.mwh,
+        opening.differential,
+        exempt,
+        bid.cents,
+    )
 }
 
 pub fn open(opening: Opening, old: Record, mwh: &[u64], prices: &[i64]) -> Planned
@@ -45,7 +46,10 @@ pub fn open(opening: Opening, old: Record, mwh: &[u64], prices: &[i64]) -> Plann
         opening.key.refusal(),
         or_else(bid.refusal(), pick(!old.is_free(), 10, 0)),
     );
-    answer(number, Deed::Keyed(Change::Add(opened(opening, bid.bid()))))
+    answer(
+        number,
+        Deed::Keyed(Change::Add(opened_record(opening, bid.bid()))),
+    )
 }
 
 pub fn revise(opening: Opening, old: Record, mwh: &[u64], prices: &[i64]) -> Planned
@@ -60,10 +64,10 @@ pub fn revise(opening: Opening, old: Record, mwh: &[u64], prices: &[i64]) -> Pla
     );
     let number = or_else(
         opening.key.refusal(),
-        or_else(bid.refusal(), stage_refusal(old, old.stage == Record::BID)),
+        or_else(bid.refusal(), stage_refusal(old, old.stage == Stage::BID)),
     );
     answer(
         number,
-        Deed::Keyed(Change::Rebid(old.requirement, opened(opening, bid.bid()))),
+        Deed::Keyed(Change::Rebid(old.requirement, opened_record(opening, bid.bid()))),
     )
 }

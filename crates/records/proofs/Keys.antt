@@ -3,6 +3,7 @@
 use mathlib.Core.Path.{_≡_, refl, sym, ap, _∙_}
 use mathlib.Core.Bool.{Bool, true, false, not, _&&_, _||_}
 use mathlib.Core.Logic.{⊎-elim}
+use Prim.Native.Nat.{ℕ, _≤_}
 use native.Mathlib.Omega.{arith}
 use lib.Dec.{leb, eqb}
 use lib.IntN.{ℤ, pos}
@@ -10,7 +11,10 @@ use borrow.Author.Tests.{leb-true, eqb-true, eq-eqb, ne-eqb, not-true}
 use Rattle.amounts.specs.Limits.{between, isNil}
 use Rattle.amounts.proofs.Signed.{signed, range-true}
 use Rattle.refusals.proofs.Laws.{never, and-left, and-right}
-use Rattle.records.specs.Records.{Key, Record, blank, isBlank, isFree, sameKey, at, implies, okRecord, okPlace}
+use Rattle.kinds.specs.declared.Rules.{Rules}
+use Rattle.kinds.specs.Kinds.{import, lastKind, bidStage, postedStage, finishedStage, billedStage, isKind, isPath, hasStage, rulesOf}
+use Rattle.kinds.proofs.ByKind.{by-rules}
+use Rattle.records.specs.Records.{Key, Record, blank, isBlank, isFree, sameKey, at, isHour, keyFits, okRecord, okPlace}
 use Rattle.records.proofs.Clauses.{either, or-right, clauses}
 
 -- ---- keys
@@ -36,6 +40,39 @@ by-test false false f g = refl
 pub sameKey-sym : (k l : Key) → sameKey k l ≡ sameKey l k
 sameKey-sym k l =
     by-test (sameKey k l) (sameKey l k) (λ h. rw (sameKey-eq k l h) (sameKey-refl l)) (λ h. rw (sameKey-eq l k h) (sameKey-refl k))
+
+-- ---- a key in range
+pub record KeyBounds (k : Key) : Type 0 where
+  pub kind-low : import ≤ k .kind
+  pub kind-high : k .kind ≤ lastKind
+  pub path-high : k .path ≤ 999
+  pub hour-high : k .hour ≤ 999999
+
+module _ (k : Key) (h : keyFits k ≡ true) where
+  abbrev kind-fits : Bool
+  kind-fits = isKind (k .kind)
+
+  abbrev path-fits : Bool
+  path-fits = isPath (rulesOf (k .kind)) (k .path)
+
+  pub key-kind : isKind (k .kind) ≡ true
+  key-kind = and-left kind-fits path-fits (and-left (kind-fits && path-fits) (isHour (k .hour)) h)
+
+  -- no kind's paths go further
+  path-most : isPath (rulesOf (k .kind)) (k .path) ≡ true → k .path ≤ 999
+  path-most =
+      let below : between 1 999 (k .path) ≡ true → k .path ≤ 999 = λ e. leb-true (k .path) 999 (and-right (leb 1 (k .path)) (leb (k .path) 999) e) in
+      by-rules (k .kind) (λ (rules : Rules). isPath rules (k .path) ≡ true → k .path ≤ 999) key-kind (λ e. below) (λ e. below) (λ e. below) (λ e. below)
+
+  pub key-bounds : KeyBounds k
+  key-bounds =
+      let kind = key-kind in
+      record {
+        kind-low = leb-true import (k .kind) (and-left (leb import (k .kind)) (leb (k .kind) lastKind) kind);
+        kind-high = leb-true (k .kind) lastKind (and-right (leb import (k .kind)) (leb (k .kind) lastKind) kind);
+        path-high = path-most (and-right kind-fits path-fits (and-left (kind-fits && path-fits) (isHour (k .hour)) h));
+        hour-high = leb-true (k .hour) 999999 (and-right (kind-fits && path-fits) (isHour (k .hour)) h);
+      }
 
 -- ---- a free place is zero throughout
 nil-eq : (z : ℤ) → isNil z ≡ true → z ≡ pos 0
@@ -135,13 +172,20 @@ pub at-apart : (k l : Key) (r : Record) → sameKey k l ≡ false → at k r ≡
 at-apart k l r h e = is-false (at l r) (λ d. sym h ∙ ap (sameKey k) (at-key l r d ∙ sym (at-key k r e)) ∙ sameKey-refl k)
 
 -- ---- a sound place is free and zero, or holds a sound record
+stages : (rules : Rules) (stage : ℕ) → hasStage rules stage ≡ true → (bidStage ≤ stage) × (stage ≤ billedStage)
+stages rules stage h =
+    let all = between bidStage billedStage stage in
+    let posts = not (eqb stage postedStage) || (eqb (rules .finished) postedStage || eqb (rules .billed) postedStage) in
+    let finishes = not (eqb stage finishedStage) || eqb (rules .billed) finishedStage in
+    let both = and-left all posts (and-left (all && posts) finishes h) in
+    (leb-true bidStage stage (and-left (leb bidStage stage) (leb stage billedStage) both), leb-true stage billedStage (and-right (leb bidStage stage) (leb stage billedStage) both))
+
+pub stage-bounds : (r : Record) → okRecord r ≡ true → (bidStage ≤ r .stage) × (r .stage ≤ billedStage)
+stage-bounds r h = stages (rulesOf (r .key .kind)) (r .stage) (clauses r h .stage)
+
 pub ok-used : (r : Record) → okRecord r ≡ true → isFree r ≡ false
 unfolding isFree
-ok-used r h =
-    let stages = between 1 4 (r .stage) in
-    let named = implies (eqb (r .key .kind) 3) (not (eqb (r .stage) 2)) in
-    let from-one = and-left (leb 1 (r .stage)) (leb (r .stage) 4) (and-left stages named (clauses r h .stage)) in
-    ne-eqb (r .stage) 0 (λ e. omega (arith, leb-true 1 (r .stage) from-one))
+ok-used r h = ne-eqb (r .stage) 0 (λ e. omega (arith, stage-bounds r h .0))
 
 pub place-free : (r : Record) → okPlace r ≡ true → isFree r ≡ true → r ≡ blank
 unfolding okPlace

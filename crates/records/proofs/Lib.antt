@@ -1,3 +1,4 @@
 pub mod Clauses
 pub mod Keys
 pub mod Bounds
+pub mod Made

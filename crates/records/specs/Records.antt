@@ -4,11 +4,11 @@ use mathlib.Core.Bool.{Bool, false, _&&_, _||_, not}
 use Prim.Native.Nat.{ℕ}
 use lib.Dec.{leb, eqb}
 use lib.IntN.{ℤ, pos}
-use Rattle.amounts.specs.Limits.{between, isPrice, isNil, isBill, isFinished}
-use Rattle.bids.specs.Rows.{pendingFits, bidMwhFits}
+use Rattle.amounts.specs.Limits.{isPrice, isNil, isBill, isFinished}
 use mathlib.Core.List.{List, [], _∷_}
 use Rattle.refusals.specs.Refusals.{Row, row}
-use Rattle.kinds.specs.Kinds.{isKind, differentialFits}
+use Rattle.kinds.specs.declared.Rules.{Rules}
+use Rattle.kinds.specs.Kinds.{isKind, isPath, hasStage, bidMwhFits, differentialFits, pendingFits, rulesOf, bidStage, postedStage, finishedStage, billedStage, never, kindRow}
 pub use Rattle.records.specs.declared.types.Key.{Key}
 pub use Rattle.records.specs.declared.types.Record.{Record}
 
@@ -24,6 +24,34 @@ blank =
       schedule = 0;
       price = pos 0;
       requirement = pos 0;
+    }
+
+-- 01: 'Open makes stage 1'; what a bid does not set is a free place's
+abbrev pub bidRecord : Key → ℕ → ℕ → Bool → ℤ → Record
+bidRecord key mwh differential exempt requirement =
+    record {
+      key = key;
+      stage = bidStage;
+      mwh = mwh;
+      differential = differential;
+      exempt = exempt;
+      schedule = blank .schedule;
+      price = blank .price;
+      requirement = requirement;
+    }
+
+-- taken on to a later stage. 01: 'Fields that a message doesn't set keep their values'
+abbrev pub advanced : Record → ℕ → ℕ → ℤ → ℤ → Record
+advanced r stage schedule price requirement =
+    record {
+      key = r .key;
+      stage = stage;
+      mwh = r .mwh;
+      differential = r .differential;
+      exempt = r .exempt;
+      schedule = schedule;
+      price = price;
+      requirement = requirement;
     }
 
 unfoldable pub isBlank : Record → Bool
@@ -47,42 +75,40 @@ at k r = not (isFree r) && sameKey k (r .key)
 abbrev pub implies : Bool → Bool → Bool
 implies a b = not a || b
 
--- 'path (1 to 999, a source and sink pair) and hour (0 to 999,999)'
-abbrev pub isPath : ℕ → Bool
-isPath path = between 1 999 path
-
+-- 'hour (0 to 999,999)'
 abbrev pub isHour : ℕ → Bool
 isHour hour = leb hour 999999
 
 abbrev pub keyFits : Key → Bool
-keyFits k = isKind (k .kind) && isPath (k .path) && isHour (k .hour)
+keyFits k = isKind (k .kind) && isPath (rulesOf (k .kind)) (k .path) && isHour (k .hour)
 
--- 'stages are 1 to 4 (never 2 for kind 3)'
-abbrev pub stageFits : Record → Bool
-stageFits r = between 1 4 (r .stage) && implies (eqb (r .key .kind) 3) (not (eqb (r .stage) 2))
-
--- 'schedule is at most bid MWh and 0 at stage 1 and for kind 3'
-abbrev pub scheduleFits : Record → Bool
-scheduleFits r = leb (r .schedule) (r .mwh) && implies (eqb (r .stage) 1 || eqb (r .key .kind) 3) (eqb (r .schedule) 0)
+-- 'schedule is at most bid MWh and 0 at stage 1 and for kind 3', which is never posted
+abbrev pub scheduleFits : Rules → Record → Bool
+scheduleFits rules r = leb (r .schedule) (r .mwh) && implies (eqb (r .stage) bidStage || eqb (rules .posted) never) (eqb (r .schedule) 0)
 
 -- 'the Day-Ahead price is 0 except for kind 1 from stage 2'
-abbrev pub dayAheadFits : Record → Bool
-dayAheadFits r = isPrice (r .price) && (eqb (r .key .kind) 1 && leb 2 (r .stage) || isNil (r .price))
+abbrev pub dayAheadFits : Rules → Record → Bool
+dayAheadFits rules r = isPrice (r .price) && (rules .dayahead && leb postedStage (r .stage) || isNil (r .price))
 
 -- 'the exempt mark stands only on kind 1'
-abbrev pub exemptFits : Record → Bool
-exemptFits r = implies (r .exempt) (eqb (r .key .kind) 1)
+abbrev pub exemptFits : Rules → Record → Bool
+exemptFits rules r = implies (r .exempt) (rules .exempts)
 
 -- 'the requirement is bounded': stages 1 and 2, stage 3, stage 4
-abbrev pub requirementFits : ℕ → ℕ → ℤ → Bool
-requirementFits kind stage amount =
-    implies (leb stage 2) (pendingFits kind amount) && implies (eqb stage 3) (isFinished amount) && implies (eqb stage 4) (isBill amount)
+abbrev pub requirementFits : Rules → ℕ → ℤ → Bool
+requirementFits rules stage amount =
+    implies (leb stage postedStage) (pendingFits rules amount) && implies (eqb stage finishedStage) (isFinished amount)
+    && implies (eqb stage billedStage) (isBill amount)
+
+-- every clause but the key's, by the rules of its kind
+unfoldable pub keeps : Rules → Record → Bool
+keeps rules r =
+    hasStage rules (r .stage) && bidMwhFits rules (r .mwh) && scheduleFits rules r && differentialFits rules (r .differential)
+    && dayAheadFits rules r && exemptFits rules r && requirementFits rules (r .stage) (r .requirement)
 
 -- an open record that keeps every clause
 unfoldable pub okRecord : Record → Bool
-okRecord r =
-    keyFits (r .key) && stageFits r && bidMwhFits (r .key .kind) (r .mwh) && scheduleFits r && differentialFits (r .key .kind) (r .differential)
-    && dayAheadFits r && exemptFits r && requirementFits (r .key .kind) (r .stage) (r .requirement)
+okRecord r = keyFits (r .key) && keeps (rulesOf (r .key .kind)) r
 
 -- a place: free and zero, or such a record
 unfoldable pub okPlace : Record → Bool
@@ -92,4 +118,4 @@ okPlace r = isBlank r || okRecord r
 
 -- 2 'kind not 1 to 4', 3 'path out of range', 4 'hour out of range'
 unfoldable pub keyRows : Key → List Row
-keyRows k = row 2 (not (isKind (k .kind))) ∷ row 3 (not (isPath (k .path))) ∷ row 4 (not (isHour (k .hour))) ∷ []
+keyRows k = kindRow (k .kind) ∷ row 3 (not (isPath (rulesOf (k .kind)) (k .path))) ∷ row 4 (not (isHour (k .hour))) ∷ []

@@ -1,29 +1,24 @@
 // Tests of one key and one record: straight-line expressions, clause by clause as document 01 lists them.
 ghost use mathlib.Core.Path.{_≡_};
 ghost use Rattle.refusals.specs.Refusals.{first};
-ghost use Rattle.kinds.specs.Kinds.{differentialFits};
-ghost use Rattle.bids.specs.Rows.{bidMwhFits};
-ghost use Rattle.records.specs.Records.{blank, isBlank, isFree, sameKey, at, keyFits, stageFits, scheduleFits, dayAheadFits, exemptFits, requirementFits, okRecord, okPlace};
+ghost use Rattle.kinds.specs.Kinds.{isKind, isPath, rulesOf};
+ghost use Rattle.records.specs.Records.{blank, bidRecord, advanced, isBlank, isFree, sameKey, at, isHour, keyFits, scheduleFits, dayAheadFits, exemptFits, requirementFits, keeps, okRecord, okPlace};
 ghost use Rattle.records.specs.Records.{keyRows};
 use crate::types::Key;
 use crate::types::Record;
 use amounts::Amount;
-use amounts::Differential;
 use amounts::Price;
-use amounts::Quantity;
-use bids::types::Point;
+use kinds::Kind;
+use kinds::Rules;
+use kinds::Stage;
 use refusals::pick;
 
-fn requirement_fits(kind: u64, stage: u64, cents: i64) -> bool
-    ensures { λ r. ⌜ r ≡ requirementFits kind stage cents ⌝ }
+fn requirement_fits(rules: Rules, stage: u64, cents: i64) -> bool
+    ensures { λ r. ⌜ r ≡ requirementFits rules stage cents ⌝ }
 {
-    (!(stage <= Record::POSTED)
-        | ((0 <= cents)
-            & (cents <= Amount::MAX_BID)
-            & (!(kind == Key::WHEEL) | ((0 <= cents) & (cents <= Amount::MAX_WHEEL)))))
-        & (!(stage == Record::FINISHED)
-            | ((Amount::MIN_FINISHED <= cents) & (cents <= Amount::MAX_FINISHED)))
-        & (!(stage == Record::BILLED) | ((Amount::MIN_BILL <= cents) & (cents <= Amount::MAX_BILL)))
+    (!(stage <= Stage::POSTED) | rules.pending_fits(cents))
+        & (!(stage == Stage::FINISHED) | Amount { cents }.is_finished())
+        & (!(stage == Stage::BILLED) | Amount { cents }.is_bill())
 }
 
 impl Key {
@@ -33,13 +28,28 @@ impl Key {
         (self.kind == other.kind) & (self.path == other.path) & (self.hour == other.hour)
     }
 
+    fn kind_fits(self) -> bool
+        ensures { λ r. ⌜ r ≡ isKind (self .kind) ⌝ }
+    {
+        Kind { number: self.kind }.in_range()
+    }
+
+    fn path_fits(self) -> bool
+        ensures { λ r. ⌜ r ≡ isPath (rulesOf (self .kind)) (self .path) ⌝ }
+    {
+        Kind { number: self.kind }.rules().is_path(self.path)
+    }
+
+    fn hour_fits(self) -> bool
+        ensures { λ r. ⌜ r ≡ isHour (self .hour) ⌝ }
+    {
+        self.hour <= Key::MAX_HOUR
+    }
+
     pub fn in_range(self) -> bool
         ensures { λ r. ⌜ r ≡ keyFits self ⌝ }
     {
-        (Key::IMPORT <= self.kind)
-            & (self.kind <= Key::WHEEL)
-            & ((Key::MIN_PATH <= self.path) & (self.path <= Key::MAX_PATH))
-            & (self.hour <= Key::MAX_HOUR)
+        self.kind_fits() & self.path_fits() & self.hour_fits()
     }
 
     // Refusals 2 to 4.
@@ -47,13 +57,9 @@ impl Key {
         ensures { λ r. ⌜ r ≡ first (keyRows self) ⌝ }
     {
         pick(
-            !((Key::IMPORT <= self.kind) & (self.kind <= Key::WHEEL)),
+            !self.kind_fits(),
             2,
-            pick(
-                !((Key::MIN_PATH <= self.path) & (self.path <= Key::MAX_PATH)),
-                3,
-                pick(!(self.hour <= Key::MAX_HOUR), 4, 0),
-            ),
+            pick(!self.path_fits(), 3, pick(!self.hour_fits(), 4, 0)),
         )
     }
 }
@@ -69,7 +75,7 @@ impl Record {
                 path: 0,
                 hour: 0,
             },
-            stage: 0,
+            stage: Stage::FREE,
             mwh: 0,
             differential: 0,
             exempt: false,
@@ -77,6 +83,32 @@ impl Record {
             price: 0,
             requirement: 0,
         }
+    }
+
+    // A bid; what it does not set is a free place's.
+    pub fn bid(key: Key, mwh: u64, differential: u64, exempt: bool, requirement: i64) -> Self
+        ensures { λ r. ⌜ r ≡ bidRecord key mwh differential exempt requirement ⌝ }
+    {
+        let mut made = Record::blank();
+        made.key = key;
+        made.stage = Stage::BID;
+        made.mwh = mwh;
+        made.differential = differential;
+        made.exempt = exempt;
+        made.requirement = requirement;
+        made
+    }
+
+    // Taken on to a later stage, which sets no other field.
+    pub fn advanced(self, stage: u64, schedule: u64, price: i64, requirement: i64) -> Self
+        ensures { λ r. ⌜ r ≡ advanced self stage schedule price requirement ⌝ }
+    {
+        let mut next = self;
+        next.stage = stage;
+        next.schedule = schedule;
+        next.price = price;
+        next.requirement = requirement;
+        next
     }
 
     pub fn is_blank(self) -> bool
@@ -97,7 +129,7 @@ impl Record {
     pub fn is_free(self) -> bool
         ensures { λ r. ⌜ r ≡ isFree self ⌝ }
     {
-        self.stage == 0
+        self.stage == Stage::FREE
     }
 
     // Stands open under this key.
@@ -107,62 +139,50 @@ impl Record {
         !self.is_free() & key.same(self.key)
     }
 
-    fn stage_ok(self) -> bool
-        ensures { λ r. ⌜ r ≡ stageFits self ⌝ }
-    {
-        ((Record::BID <= self.stage) & (self.stage <= Record::BILLED))
-            & (!(self.key.kind == Key::HOUR_AHEAD_EXPORT) | !(self.stage == Record::POSTED))
-    }
-
-    fn mwh_ok(self) -> bool
-        ensures { λ r. ⌜ r ≡ bidMwhFits (self .key .kind) (self .mwh) ⌝ }
-    {
-        (self.mwh <= Quantity::MAX)
-            & (!((self.key.kind == Key::IMPORT) | (self.key.kind == Key::WHEEL))
-                | (self.mwh <= Point::MAX_MWH))
-    }
-
-    fn schedule_ok(self) -> bool
-        ensures { λ r. ⌜ r ≡ scheduleFits self ⌝ }
+    // No more than bid MWh, and 0 before a post and where there is none.
+    fn schedule_fits(self, rules: Rules) -> bool
+        ensures { λ r. ⌜ r ≡ scheduleFits rules self ⌝ }
     {
         (self.schedule <= self.mwh)
-            & (!((self.stage == Record::BID) | (self.key.kind == Key::HOUR_AHEAD_EXPORT))
+            & (!((self.stage == Stage::BID) | (rules.posted == Rules::NEVER))
                 | (self.schedule == 0))
     }
 
-    fn differential_ok(self) -> bool
-        ensures { λ r. ⌜ r ≡ differentialFits (self .key .kind) (self .differential) ⌝ }
+    fn day_ahead_fits(self, rules: Rules) -> bool
+        ensures { λ r. ⌜ r ≡ dayAheadFits rules self ⌝ }
     {
-        (self.differential <= Differential::MAX)
-            & ((self.key.kind <= Key::EXPORT) | (self.differential == 0))
+        Price { cents: self.price }.in_range()
+            & ((rules.dayahead & (Stage::POSTED <= self.stage))
+                | Price { cents: self.price }.is_nil())
     }
 
-    fn price_ok(self) -> bool
-        ensures { λ r. ⌜ r ≡ dayAheadFits self ⌝ }
+    fn exempt_fits(self, rules: Rules) -> bool
+        ensures { λ r. ⌜ r ≡ exemptFits rules self ⌝ }
     {
-        ((Price::MIN <= self.price) & (self.price <= Price::MAX))
-            & (((self.key.kind == Key::IMPORT) & (Record::POSTED <= self.stage))
-                | ((0 <= self.price) & (self.price <= 0)))
+        !self.exempt | rules.exempts
     }
 
-    fn exempt_ok(self) -> bool
-        ensures { λ r. ⌜ r ≡ exemptFits self ⌝ }
+    // Every clause of soundness but the key's.
+    fn keeps(self, rules: Rules) -> bool
+        ensures { λ r. ⌜ r ≡ keeps rules self ⌝ }
     {
-        !self.exempt | (self.key.kind == Key::IMPORT)
+        rules.has_stage(self.stage)
+            & rules.bid_mwh_fits(self.mwh)
+            & self.schedule_fits(rules)
+            & rules.differential_fits(self.differential)
+            & self.day_ahead_fits(rules)
+            & self.exempt_fits(rules)
+            & requirement_fits(rules, self.stage, self.requirement)
     }
 
     // An open record that keeps every clause of soundness.
     pub fn in_range(self) -> bool
         ensures { λ r. ⌜ r ≡ okRecord self ⌝ }
     {
-        self.key.in_range()
-            & self.stage_ok()
-            & self.mwh_ok()
-            & self.schedule_ok()
-            & self.differential_ok()
-            & self.price_ok()
-            & self.exempt_ok()
-            & requirement_fits(self.key.kind, self.stage, self.requirement)
+        let rules = Kind {
+            number: self.key.kind,
+        }.rules();
+        self.key.in_range() & self.keeps(rules)
     }
 
     // A place of a sound book: free and zero, or a record that keeps every clause.

@@ -8,18 +8,6 @@ pub struct Key {
 }
 
 impl Key {
-    pub const IMPORT: u64 = 1;
-
-    pub const EXPORT: u64 = 2;
-
-    pub const HOUR_AHEAD_EXPORT: u64 = 3;
-
-    pub const WHEEL: u64 = 4;
-
-    pub const MIN_PATH: u64 = 1;
-
-    pub const MAX_PATH: u64 = 999;
-
     pub const MAX_HOUR: u64 = 999_999;
 }
 
@@ -35,14 +23,4 @@ pub struct Record {
     // The Day-Ahead price, which a posted import keeps.
     pub price: i64,
     pub requirement: i64,
-}
-
-impl Record {
-    pub const BID: u64 = 1;
-
-    pub const POSTED: u64 = 2;
-
-    pub const FINISHED: u64 = 3;
-
-    pub const BILLED: u64 = 4;
 }

@@ -5,8 +5,8 @@ use Rattle.messages.specs.Plan.{plan}
 use Rattle.moves.proofs.bills.bill.Statement.{statement}
 use Rattle.moves.proofs.bills.bill.Tie as tie
 
-moved-requires : tie.Need-moved-requires
-moved-requires c κs = tt
+later-record-requires : tie.Need-later-record-requires
+later-record-requires c κs = tt
 
 bill-refusal-requires : tie.Need-bill-refusal-requires
 bill-refusal-requires c κs = tt
@@ -20,9 +20,10 @@ returns c =
     rw (
       c .answer .ensures,
       c .before .bill-refusal .ensures,
-      c .before .before .moved .ensures,
+      c .before .before .later-record .ensures,
       back (c .before .before .before .before .args .billing .cents) (c .before .before .before .struct-told .given .1 .0 .1),
     )
 
 pub bill-spec : {M : Type 1} → statement M
-bill-spec = tie.close (tie.spec moved-requires bill-refusal-requires answer-requires returns)
+bill-spec =
+    tie.close (tie.spec later-record-requires bill-refusal-requires answer-requires returns)

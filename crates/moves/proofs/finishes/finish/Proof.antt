@@ -8,8 +8,8 @@ use Rattle.moves.proofs.finishes.finish.Tie as tie
 finished-cents-requires : tie.Need-finished-cents-requires
 finished-cents-requires c κs = tt
 
-moved-requires : tie.Need-moved-requires
-moved-requires c κs = tt
+later-record-requires : tie.Need-later-record-requires
+later-record-requires c κs = tt
 
 finish-refusal-requires : tie.Need-finish-refusal-requires
 finish-refusal-requires c κs = tt
@@ -23,11 +23,17 @@ returns c =
     rw (
       c .answer .ensures,
       c .before .finish-refusal .ensures,
-      c .before .before .moved .ensures,
+      c .before .before .later-record .ensures,
       back (c .before .before .before .finished-cents .result) (c .before .before .before .finished-cents .ok),
       c .before .before .before .finished-cents .ensures,
     )
 
 pub finish-spec : {M : Type 1} → statement M
 finish-spec =
-    tie.close (tie.spec finished-cents-requires moved-requires finish-refusal-requires answer-requires returns)
+    tie.close
+    (tie.spec
+    finished-cents-requires
+    later-record-requires
+    finish-refusal-requires
+    answer-requires
+    returns)

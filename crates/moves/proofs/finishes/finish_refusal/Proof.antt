@@ -4,11 +4,11 @@ use Rattle.messages.proofs.Tables.{key-above, delivery-above}
 use Rattle.moves.proofs.finishes.finish_refusal.Statement.{statement}
 use Rattle.moves.proofs.finishes.finish_refusal.Tie as tie
 
+rules-requires : tie.Need-rules-requires
+rules-requires c κs = tt
+
 delivery-refusal-requires : tie.Need-delivery-refusal-requires
 delivery-refusal-requires c κs = tt
-
-before-finish-requires : tie.Need-before-finish-requires
-before-finish-requires c κs = tt
 
 refusal-requires : tie.Need-refusal-requires
 refusal-requires c κs = tt
@@ -24,25 +24,26 @@ or-else-requires-2 c κs = tt
 
 returns : tie.Need-returns
 returns c =
+    let f = c .before .before .before .before .before .before .before .before .before .before .args .finishing in
     rw (
       key-above,
       delivery-above,
       c .or-else2 .ensures,
       c .before .or-else .ensures,
       c .before .before .stage-refusal .ensures,
-      c .before .before .before .refusal .ensures,
-      c .before .before .before .before .before .before-finish .ensures,
+      c .before .before .before .before .before .refusal .ensures,
       c .before .before .before .before .before .before .delivery-refusal .ensures,
-      back (c .before .before .before .before .before .before .before .before .before .args .finishing .price) (c .before .before .before .before .before .before .before .before .struct-told .given .1 .1 .0 .1),
-      back (c .before .before .before .before .before .before .before .before .before .args .finishing .second) (c .before .before .before .before .before .before .before .struct-told2 .given .1 .1 .1 .0 .1),
+      c .before .before .before .before .before .before .before .before .before .rules .ensures,
+      back (f .price) (c .before .before .before .before .before .before .before .before .struct-told .given .1 .1 .0 .1),
+      back (f .second) (c .before .before .before .before .before .before .before .struct-told2 .given .1 .1 .1 .0 .1),
     )
 
 pub finish-refusal-spec : {M : Type 1} → statement M
 finish-refusal-spec =
     tie.close
     (tie.spec
+    rules-requires
     delivery-refusal-requires
-    before-finish-requires
     refusal-requires
     stage-refusal-requires
     or-else-requires

@@ -8,8 +8,8 @@ use Rattle.moves.proofs.posts.post.Tie as tie
 posted-cents-requires : tie.Need-posted-cents-requires
 posted-cents-requires c κs = tt
 
-posted-requires : tie.Need-posted-requires
-posted-requires c κs = tt
+posted-record-requires : tie.Need-posted-record-requires
+posted-record-requires c κs = tt
 
 post-refusal-requires : tie.Need-post-refusal-requires
 post-refusal-requires c κs = tt
@@ -23,11 +23,17 @@ returns c =
     rw (
       c .answer .ensures,
       c .before .post-refusal .ensures,
-      c .before .before .posted .ensures,
+      c .before .before .posted-record .ensures,
       back (c .before .before .before .posted-cents .result) (c .before .before .before .posted-cents .ok),
       c .before .before .before .posted-cents .ensures,
     )
 
 pub post-spec : {M : Type 1} → statement M
 post-spec =
-    tie.close (tie.spec posted-cents-requires posted-requires post-refusal-requires answer-requires returns)
+    tie.close
+    (tie.spec
+    posted-cents-requires
+    posted-record-requires
+    post-refusal-requires
+    answer-requires
+    returns)

@@ -4,6 +4,9 @@ use Rattle.messages.proofs.Tables.{key-above, delivery-above, stage-above, last
 use Rattle.moves.proofs.posts.post_refusal.Statement.{statement}
 use Rattle.moves.proofs.posts.post_refusal.Tie as tie
 
+rules-requires : tie.Need-rules-requires
+rules-requires c κs = tt
+
 delivery-refusal-requires : tie.Need-delivery-refusal-requires
 delivery-refusal-requires c κs = tt
 
@@ -27,6 +30,7 @@ or-else-requires-3 c κs = tt
 
 returns : tie.Need-returns
 returns c =
+    let p = c .before .before .before .before .before .before .before .before .before .before .before .before .before .before .args .posting in
     rw (
       key-above,
       delivery-above,
@@ -37,16 +41,18 @@ returns c =
       c .before .before .or-else .ensures,
       c .before .before .before .pick .ensures,
       c .before .before .before .before .before .before .stage-refusal .ensures,
-      c .before .before .before .before .before .before .before .refusal .ensures,
+      c .before .before .before .before .before .before .before .before .before .refusal .ensures,
       c .before .before .before .before .before .before .before .before .before .before .delivery-refusal .ensures,
-      back (c .before .before .before .before .before .before .before .before .before .before .before .before .before .args .posting .price) (c .before .before .before .before .before .before .before .before .before .before .before .before .struct-told .given .1 .1 .0 .1),
-      back (c .before .before .before .before .before .before .before .before .before .before .before .before .before .args .posting .second) (c .before .before .before .before .before .before .before .before .before .before .before .struct-told2 .given .1 .1 .1 .0 .1),
+      c .before .before .before .before .before .before .before .before .before .before .before .before .before .rules .ensures,
+      back (p .price) (c .before .before .before .before .before .before .before .before .before .before .before .before .struct-told .given .1 .1 .0 .1),
+      back (p .second) (c .before .before .before .before .before .before .before .before .before .before .before .struct-told2 .given .1 .1 .1 .0 .1),
     )
 
 pub post-refusal-spec : {M : Type 1} → statement M
 post-refusal-spec =
     tie.close
     (tie.spec
+    rules-requires
     delivery-refusal-requires
     refusal-requires
     stage-refusal-requires

@@ -1,9 +1,9 @@
--- `withdraw`: its table is the key's rows over the stage's.
+-- `pay`: its table is the key's rows over the stage's.
 use Rattle.refusals.specs.Refusals.{judge}
 use Rattle.messages.specs.Plan.{plan}
 use Rattle.messages.proofs.Tables.{key-above}
-use Rattle.moves.proofs.drops.withdraw.Statement.{statement}
-use Rattle.moves.proofs.drops.withdraw.Tie as tie
+use Rattle.moves.proofs.frees.pay.Statement.{statement}
+use Rattle.moves.proofs.frees.pay.Tie as tie
 
 refusal-requires : tie.Need-refusal-requires
 refusal-requires c κs = tt
@@ -21,7 +21,7 @@ returns : tie.Need-returns
 unfolding plan judge
 returns c = rw (key-above, c .answer .ensures, c .before .or-else .ensures, c .before .before .stage-refusal .ensures, c .before .before .before .before .refusal .ensures)
 
-pub withdraw-spec : {M : Type 1} → statement M
-withdraw-spec =
+pub pay-spec : {M : Type 1} → statement M
+pay-spec =
     tie.close
     (tie.spec refusal-requires stage-refusal-requires or-else-requires answer-requires returns)

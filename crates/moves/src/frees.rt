@@ -2,6 +2,7 @@
 ghost use mathlib.Core.Path.{_≡_};
 ghost use mathlib.Core.List.{[]};
 ghost use Rattle.messages.specs.Plan.{plan, planned};
+use kinds::Stage;
 use messages::answer;
 use messages::stage_refusal;
 use messages::types::Change;
@@ -15,7 +16,7 @@ use refusals::or_else;
 pub fn withdraw(key: Key, old: Record) -> Planned
     ensures { λ r. ⌜ r ≡ planned (plan old (Message.Withdraw key) [] []) ⌝ }
 {
-    let number = or_else(key.refusal(), stage_refusal(old, old.stage == Record::BID));
+    let number = or_else(key.refusal(), stage_refusal(old, old.stage == Stage::BID));
     answer(number, Deed::Keyed(Change::Remove(key)))
 }
 
@@ -24,7 +25,7 @@ pub fn pay(key: Key, old: Record) -> Planned
 {
     let number = or_else(
         key.refusal(),
-        stage_refusal(old, old.stage == Record::BILLED),
+        stage_refusal(old, old.stage == Stage::BILLED),
     );
     answer(number, Deed::Keyed(Change::Remove(key)))
 }
