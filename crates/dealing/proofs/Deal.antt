@@ -9,7 +9,7 @@ use Prim.Native.Nat.{ℕ, _+_, _≤_}
 use native.Mathlib.Omega.{arith}
 use lib.IntN.{ℤ, pos, _+ℤ_, +ℤ-comm}
 use lib.ListN.{length}
-use Rattle.amounts.specs.Lists.{total, count}
+use Rattle.amounts.specs.Lists.{total}
 use Rattle.amounts.proofs.Signed.{signed, tested, sum-of}
 use Rattle.refusals.specs.Refusals.{None}
 use Rattle.refusals.proofs.Laws.{never, none-join}
@@ -31,6 +31,7 @@ use Rattle.book.specs.Places.{find, orElseBlank}
 use Rattle.book.specs.Books.{lookup, sound, full, totals}
 use Rattle.endings.specs.Answers.{reply}
 use Rattle.book.specs.Step.{deedOf, table, change, rebook, done, step}
+use Rattle.book.proofs.Places.{count}
 use Rattle.book.proofs.Effect.{Effect, weight, mark}
 use Rattle.book.proofs.Kept.{lookup-none, effect, leaves, done-sound}
 use Rattle.promises.proofs.Answers.{none-accepted}
@@ -51,7 +52,7 @@ pub record Deal (o : Key → Bool) (W : Book) (D : Bool → Book) : Type 0 where
   pub size : length (W .records) ≡ 256
   pub sizes : (s : Bool) → length (D s .records) ≡ 256
   pub sane : (s : Bool) → sound (D s) ≡ true
-  pub top : (s : Bool) → D s .support ≡ pos topSupport
+  pub top : (s : Bool) → D s .account .support ≡ pos topSupport
 
 -- the two books with one of them replaced
 abbrev pub put : (Bool → Book) → Bool → Book → Bool → Book
@@ -143,12 +144,12 @@ module _ (o : Key → Bool) (W : Book) (D : Bool → Book) (I : Deal o W D) wher
       (mine : o′ k ≡ s) (others : (l : Key) → sameKey k l ≡ false → o′ l ≡ o l)
       (own : under k (D s) ≡ under k W) (other : under k (D (not s)) ≡ none)
       (EW : Effect k (W .records) (change c (W .records)) (leaves c)) (ES : Effect k (D s .records) (change c (D s .records)) (leaves c))
-      (sane : sound (rebook (D s) (D s .support) (change c (D s .records))) ≡ true) where
+      (sane : sound (rebook (D s) (D s .account) (change c (D s .records))) ≡ true) where
     abbrev W′ : Book
-    W′ = rebook W (W .support) (change c (W .records))
+    W′ = rebook W (W .account) (change c (W .records))
 
     abbrev A : Book
-    A = rebook (D s) (D s .support) (change c (D s .records))
+    A = rebook (D s) (D s .account) (change c (D s .records))
 
     at-key : (s t : Bool) (D : Bool → Book) (A : Book) (n : Option Record) → under k A ≡ n → under k (D (not s)) ≡ none → under k (put D s A t) ≡ cond (Bool·beq t s) n none
     at-key true true D A n h e = h
@@ -200,7 +201,7 @@ module _ (o : Key → Bool) (W : Book) (D : Bool → Book) (I : Deal o W D) wher
           size = EW .size ∙ I .size;
           sizes = put-each (λ b. length (b .records) ≡ 256) D s A (ES .size ∙ I .sizes s) (I .sizes);
           sane = put-each (λ b. sound b ≡ true) D s A sane (I .sane);
-          top = put-each (λ b. b .support ≡ pos topSupport) D s A (I .top s) (I .top);
+          top = put-each (λ b. b .account .support ≡ pos topSupport) D s A (I .top s) (I .top);
         }
 
 -- ---- one message

@@ -14,6 +14,8 @@ use Rattle.messages.specs.declared.types.Message.the-variants.{Open, Revise, Wi
 use Rattle.messages.specs.Plan.{keyOf, opens}
 use Rattle.book.specs.declared.types.Book.{Book}
 use Rattle.endings.specs.Answers.{reply}
+use Rattle.credit.specs.declared.types.Account.{Account}
+use Rattle.credit.specs.Account.{supported as withSupport}
 use Rattle.book.specs.Step.{rebook, step}
 use Rattle.promises.specs.Runs.{Sent, after}
 use Rattle.promises.proofs.Requirements.{support-sets}
@@ -75,8 +77,8 @@ unkeyed (Pay k) h = never (sym h)
 unkeyed (Support f) h = (f, refl)
 
 module _ (o : Key → Bool) (W : Book) (D : Bool → Book) (I : Deal o W D) where
-  supported : (z : ℤ) → Deal o (rebook W z (W .records)) D
-  supported z = record { finds = I .finds; sums = I .sums; marks = I .marks; size = I .size; sizes = I .sizes; sane = I .sane; top = I .top }
+  supported : (a : Account) → Deal o (rebook W a (W .records)) D
+  supported a = record { finds = I .finds; sums = I .sums; marks = I .marks; size = I .size; sizes = I .sizes; sane = I .sane; top = I .top }
 
   deal-support : (x : Dealt) → keyed (x .sent .message) ≡ false → reply (sentTo W (x .sent) .answer) .number ≡ 0 → Deal (owner o x) (sentTo W (x .sent) .book) D
   unfolding owner
@@ -84,11 +86,11 @@ module _ (o : Key → Bool) (W : Book) (D : Bool → Book) (I : Deal o W D) wher
       let is = unkeyed (x .sent .message) e in
       let ms = x .sent .mwhs in
       let ps = x .sent .prices in
-      let next : sentTo W (x .sent) .book ≡ rebook W (is .0 .cents) (W .records) =
+      let next : sentTo W (x .sent) .book ≡ rebook W (withSupport (W .account) (is .0 .cents)) (W .records) =
       ap (λ (m : Message). step W m ms ps .book) (is .1) ∙ support-sets W ms ps (is .0) (subst (λ (m : Message). reply (step W m ms ps .answer) .number ≡ 0) (is .1) h) in
       let still : (k : Key) → o k ≡ owner o x k = λ k. ap (λ (m : Message). cond (opens m && sameKey (keyOf (x .sent .message)) k) (x .side) (o k)) (sym (is .1)) in
       subst (λ (A : Book). Deal (owner o x) A D) (sym next)
-      (subst (λ (q : Key → Bool). Deal q (rebook W (is .0 .cents) (W .records)) D) (fun-ext still) (supported (is .0 .cents)))
+      (subst (λ (q : Key → Bool). Deal q (rebook W (withSupport (W .account) (is .0 .cents)) (W .records)) D) (fun-ext still) (supported (withSupport (W .account) (is .0 .cents))))
 
 module _ (o : Key → Bool) (W : Book) (D : Bool → Book) (x : Dealt) (xs : List Dealt) where
   abbrev W′ : Book

@@ -17,7 +17,7 @@ use Rattle.credit.proofs.Rows.{credit-rows-numbered}
 use Rattle.credit.specs.Credit.{creditRows}
 use Rattle.book.specs.declared.types.Book.{Book}
 use Rattle.book.specs.declared.types.Outcome.{Outcome}
-use Rattle.book.specs.Books.{lookup, sound, held, owed, totals, heldShown, owedShown}
+use Rattle.book.specs.Books.{lookup, sound, held, owed, totals, heldAnswered, owedAnswered}
 use Rattle.endings.specs.Answers.{reply}
 use Rattle.book.specs.Step.{deedOf, table, verdict, outcome, step}
 use Rattle.promises.specs.Statements.{replied, Unchanged}
@@ -55,7 +55,7 @@ module _ (b : Book) (m : Message) (ms : List ℕ) (ps : List ℤ) where
   first-refused n h = number-is ∙ first-is n (table b m ms ps) h
 
   unchanged-by : (n : ℕ) (d : Deed) (t : Bool) → eqb n 0 ≡ t → (n ≡ 0 → ⊥) → (o : Outcome) → o ≡ outcome b (cond t (accept d) (refuse n))
-      → (o .book ≡ b) × ((reply (o .answer) .requirement ≡ pos 0) × ((reply (o .answer) .held ≡ heldShown b) × (reply (o .answer) .owed ≡ owedShown b)))
+      → (o .book ≡ b) × ((reply (o .answer) .requirement ≡ pos 0) × ((reply (o .answer) .held ≡ heldAnswered b) × (reply (o .answer) .owed ≡ owedAnswered b)))
   unfolding outcome
   unchanged-by n d true e h o q = absurd (h (eqb-true n 0 e))
   unchanged-by n d false e h o q = rw q (refl, (refl, (refl, refl)))
@@ -69,12 +69,12 @@ module _ (b : Book) (m : Message) (ms : List ℕ) (ps : List ℤ) where
       record { book = u .0; requirement = u .1 .0; held = u .1 .1 .0; owed = u .1 .1 .1 }
 
 -- '(both 0 for 1)': a book that is not sound answers refusal 1 and 0 for both, a sound book its own sums
-pub shown-unsound : (b : Book) → sound b ≡ false → (heldShown b ≡ pos 0) × (owedShown b ≡ pos 0)
-unfolding heldShown owedShown
+pub shown-unsound : (b : Book) → sound b ≡ false → (heldAnswered b ≡ pos 0) × (owedAnswered b ≡ pos 0)
+unfolding heldAnswered owedAnswered
 shown-unsound b h = rw h (refl, refl)
 
-pub shown-sound : (b : Book) → sound b ≡ true → (heldShown b ≡ held b) × (owedShown b ≡ owed b)
-unfolding heldShown owedShown
+pub shown-sound : (b : Book) → sound b ≡ true → (heldAnswered b ≡ held b) × (owedAnswered b ≡ owed b)
+unfolding heldAnswered owedAnswered
 shown-sound b h = rw h (refl, refl)
 
 pub unsound-one : (b : Book) (m : Message) (ms : List ℕ) (ps : List ℤ) → sound b ≡ false → replied b m ms ps .number ≡ 1

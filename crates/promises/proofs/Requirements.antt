@@ -25,6 +25,7 @@ use Rattle.messages.proofs.Fits.{Fits}
 use Rattle.messages.proofs.Formulas.{bidOf01, bid-is, revised-is, posted-is, finished-is}
 use Rattle.credit.specs.Credit.{creditRows}
 use Rattle.book.specs.declared.types.Book.{Book}
+use Rattle.credit.specs.Account.{supported}
 use Rattle.book.specs.Places.{orElseBlank}
 use Rattle.book.specs.Books.{lookup, sound, totals}
 use Rattle.book.specs.Step.{deedOf, rebook, done, step}
@@ -111,7 +112,7 @@ module _ (b : Book) (ms : List ℕ) (ps : List ℤ) where
   pay-frees k ok = here b (Pay k) ms ps ok _ refl
 
   -- support: the records stay, and the support is the amount given
-  pub support-sets : (s : Funding) → replied b (Support s) ms ps .number ≡ 0 → step b (Support s) ms ps .book ≡ rebook b (s .cents) (b .records)
+  pub support-sets : (s : Funding) → replied b (Support s) ms ps .number ≡ 0 → step b (Support s) ms ps .book ≡ rebook b (supported (b .account) (s .cents)) (b .records)
   unfolding deedOf done
   support-sets s ok = taken b (Support s) ms ps ok .next
 

@@ -13,8 +13,7 @@ use Rattle.amounts.specs.Lists.{sum, every}
 use Rattle.refusals.proofs.Laws.{and-left, and-right, and-both}
 use Rattle.messages.specs.declared.types.Message.{Message}
 use Rattle.records.specs.Records.{isBlank, isFree, okPlace}
-use Rattle.credit.specs.Credit.{suspended}
-use Rattle.credit.specs.Weights.{owes}
+use Rattle.credit.specs.Credit.{owes, suspended}
 use Rattle.book.specs.declared.types.Book.{Book}
 use Rattle.book.specs.Books.{sound, distinct, held, owed, totals, suspendedShown, noRecords, empty}
 use Rattle.book.specs.declared.types.Outcome.{Outcome}
@@ -80,7 +79,7 @@ empty-held z = (refl, refl)
 -- ---- suspension
 
 -- 'The book is suspended exactly when 2 x net owed is at least the support'
-pub suspended-exactly : (b : Book) → sound b ≡ true → suspendedShown b ≡ leZ (b .support) (pos 2 *ℤ owed b)
+pub suspended-exactly : (b : Book) → sound b ≡ true → suspendedShown b ≡ leZ (b .account .support) (pos 2 *ℤ owed b)
 unfolding suspendedShown suspended totals
 suspended-exactly b h = rw h
 

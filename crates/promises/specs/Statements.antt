@@ -10,7 +10,7 @@ use Rattle.messages.specs.declared.types.Message.{Message}
 use Rattle.messages.specs.Plan.{keyOf, planRows}
 use Rattle.credit.specs.Credit.{creditRows, answeredBy}
 use Rattle.book.specs.declared.types.Book.{Book}
-use Rattle.book.specs.Books.{lookup, sound, held, owed, totals, heldShown, owedShown}
+use Rattle.book.specs.Books.{lookup, sound, held, owed, totals, heldAnswered, owedAnswered}
 use Rattle.endings.specs.Answers.{Reply, reply}
 use Rattle.book.specs.Step.{deedOf, done, step}
 
@@ -23,8 +23,8 @@ module _ (b : Book) (m : Message) (ms : List ℕ) (ps : List ℤ) where
   pub record Unchanged : Type 0 where
     pub book : step b m ms ps .book ≡ b
     pub requirement : replied .requirement ≡ pos 0
-    pub held : replied .held ≡ heldShown b
-    pub owed : replied .owed ≡ owedShown b
+    pub held : replied .held ≡ heldAnswered b
+    pub owed : replied .owed ≡ owedAnswered b
 
   -- an acceptance: the book is sound, no refusal applies, what is asked for is done, and held and net owed are those of the next book
   pub record Taken : Type 0 where
