@@ -14,9 +14,14 @@ use Rattle.messages.specs.declared.types.Message.{Message}
 use Rattle.messages.specs.declared.types.Deed.{Deed}
 use Rattle.messages.specs.Plan.{keyOf, planRows, plan}
 use Rattle.messages.proofs.Fits.{plan-rows-numbered}
-use Rattle.credit.specs.Credit.{creditRows, creditVerdict, pass}
+use Rattle.credit.specs.Credit.{creditRows}
+use Rattle.endings.specs.Endings.{creditVerdict, pass}
 use Rattle.book.specs.Books.{Book, lookup, sound, totals}
-use Rattle.book.specs.Step.{deedOf, table, verdict, concluded}
+use Rattle.book.specs.Step.{deedOf, table, verdict}
+
+-- refusal 1 first; then the lower table, over the verdict of the upper
+unfoldable pub concluded : Book → Verdict Deed → Verdict Deed
+concluded b v = cond (sound b) (pass (totals b) v) (refuse 1)
 
 -- two tables, one below the other: the lower is asked only where the upper has passed
 module _ {X : Type 0} (x : X) where

@@ -16,7 +16,7 @@ use Rattle.messages.proofs.Fits.{plan-rows-numbered}
 use Rattle.credit.proofs.Rows.{credit-rows-numbered}
 use Rattle.credit.specs.Credit.{creditRows}
 use Rattle.book.specs.declared.types.Book.{Book}
-use Rattle.book.specs.Books.{lookup, totals, heldShown, owedShown}
+use Rattle.book.specs.Books.{lookup, totals, heldAnswered, owedAnswered}
 use Rattle.endings.specs.Answers.{reply}
 use Rattle.book.specs.Step.{deedOf, table, verdict, outcome, step}
 use Rattle.demands.specs.Runs.{nextBook, replied}
@@ -56,7 +56,7 @@ module _ (b : Book) (m : Message) (ms : List ℕ) (ps : List ℤ) where
 
   unchanged-by : (n : ℕ) (d : Deed) (t : Bool) → eqb n 0 ≡ t → (n ≡ 0 → ⊥)
       → let o = outcome b (cond t (accept d) (refuse n)) in Refusal b (o .book) (reply (o .answer))
-  unfolding outcome heldShown owedShown
+  unfolding outcome heldAnswered owedAnswered
   unchanged-by n d true e h = absurd (h (eqb-true n 0 e))
   unchanged-by n d false e h = record { book = refl; requirement = refl; held = refl; owed = refl }
 

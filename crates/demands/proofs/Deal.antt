@@ -9,7 +9,7 @@ use Prim.Native.Nat.{ℕ, _+_, _≤_}
 use native.Mathlib.Omega.{arith}
 use lib.IntN.{ℤ, pos, _+ℤ_, +ℤ-comm}
 use lib.ListN.{length}
-use Rattle.amounts.specs.Lists.{total, count}
+use Rattle.amounts.specs.Lists.{total}
 use Rattle.amounts.proofs.Signed.{signed, tested, sum-of}
 use Rattle.refusals.specs.Refusals.{None}
 use Rattle.refusals.proofs.Laws.{never, none-join}
@@ -31,6 +31,7 @@ use Rattle.book.specs.Places.{find, orElseBlank}
 use Rattle.book.specs.Books.{lookup, sound, full, totals}
 use Rattle.endings.specs.Answers.{reply}
 use Rattle.book.specs.Step.{deedOf, table, done, step}
+use Rattle.book.proofs.Places.{count}
 use Rattle.book.proofs.Effect.{Effect, weight, mark}
 use Rattle.book.proofs.Kept.{lookup-none, effect, leaves, done-sound}
 use Rattle.demands.proofs.Answers.{none-accepted}

@@ -21,8 +21,7 @@ use Rattle.records.specs.Records.{isBlank, isFree, sameKey, at, okRecord, okPla
 use Rattle.messages.specs.declared.types.Message.{Message}
 use Rattle.messages.specs.declared.types.Message.the-variants.{Open, Post, Finish, Bill, Pay, Support}
 use Rattle.messages.specs.Plan.{bidFor, postedFor, finishedFor, stageRows}
-use Rattle.credit.specs.Credit.{suspended}
-use Rattle.credit.specs.Weights.{owes}
+use Rattle.credit.specs.Credit.{owes, suspended}
 use Rattle.book.specs.Places.{find, swap, missing, orElseBlank}
 use Rattle.book.specs.Books.{lookup, distinct, sound, held, owed, full, totals, noRecords}
 use Rattle.book.specs.Step.{deedOf, table, verdict, change, done, outcome, step, fresh}

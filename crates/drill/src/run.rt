@@ -78,7 +78,7 @@ fn turn(last: Step, counts: &mut [u64; 300], plan: Plan) -> Step {
         ask.message,
         ask.key.kind,
         reply,
-        book.support,
+        book.account.support,
         asked.above,
     );
     print(noted, plan, ask, reply);
@@ -97,7 +97,7 @@ fn begun(tally: Tally, counts: &mut [u64; 300], support: i64) -> Tally {
         pick(reply.number == 0, rows::FRESH, rows::FRESH + 1),
     );
     let mut next = tally.answered(reply);
-    next.digest = mix_cents(next.digest, outcome.book.support);
+    next.digest = mix_cents(next.digest, outcome.book.account.support);
     next
 }
 

@@ -50,14 +50,15 @@ pub fn sent(book: Book, ask: Ask, seed: u64) -> Outcome {
 // The held amount that the message would leave with the largest support.
 pub fn tried(book: Book, ask: Ask, seed: u64) -> i64 {
     let mut aside = book;
-    aside.support = values::MOST_SUPPORT;
+    let account = book.account.supported(values::MOST_SUPPORT);
+    aside.account = account;
     let answer = sent(aside, ask, seed).answer;
     replied(answer).held
 }
 
 // All that a book holds.
 fn all_mixed(book: Book, digest: u64) -> u64 {
-    let mut next = mix_cents(digest, book.support);
+    let mut next = mix_cents(digest, book.account.support);
     let mut i: usize = 0;
     while i < 256 {
         let r = book.records[i];
@@ -84,7 +85,8 @@ fn changed(book: Book, change: u64, w: u64) -> Book {
     let at = (w % 256) as usize;
     let field = changes::field(change);
     if field == changes::SUPPORT {
-        next.support = changes::value(change);
+        let account = book.account.supported(changes::value(change));
+        next.account = account;
         return next;
     }
     let r = changes::record(change);

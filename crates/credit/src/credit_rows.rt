@@ -6,7 +6,7 @@ ghost use lib.Signed.{ltZ};
 ghost use Rattle.amounts.specs.Amount.{Within};
 ghost use Rattle.refusals.specs.Refusals.{first};
 ghost use Rattle.credit.specs.Credit.{suspended, creditRows};
-ghost use Rattle.credit.specs.Bounds.{TotalsBounded, DeedBounded};
+ghost use Rattle.credit.specs.NoOverflow.{TotalsBounded, DeedBounded};
 use crate::types::Totals;
 use messages::types::Change;
 use messages::types::Deed;
