@@ -19,7 +19,7 @@ fn usual(w: u64) -> u64
     }
 }
 
-pub fn mwh_count(seed: u64) -> usize
+pub(crate) fn mwh_count(seed: u64) -> usize
     ensures { λ r. ⌜ r ≤ 65 ⌝ }
 {
     let w = draw(seed, generator::COUNT);
@@ -34,7 +34,7 @@ pub fn mwh_count(seed: u64) -> usize
     n as usize
 }
 
-pub fn price_count(seed: u64) -> usize
+pub(crate) fn price_count(seed: u64) -> usize
     ensures { λ r. ⌜ r ≤ 65 ⌝ }
 {
     let w = draw(seed, generator::COUNT);
@@ -60,7 +60,7 @@ fn faulty_place(seed: u64, n: usize, fault: u64) -> usize
 }
 
 // The quantities, of which the first `mwh_count` are lent. Fault 6 puts one out of range among them.
-pub fn mwh_points(seed: u64) -> [u64; 66]
+pub(crate) fn mwh_points(seed: u64) -> [u64; 66]
     ensures { λ r. ⌜ length r ≡ 66 ⌝ }
 {
     let mut list = [0u64; 66];
@@ -77,7 +77,7 @@ pub fn mwh_points(seed: u64) -> [u64; 66]
 }
 
 // The prices, of which the first `price_count` are lent. Fault 7 puts one out of range among them.
-pub fn price_points(seed: u64) -> [i64; 66]
+pub(crate) fn price_points(seed: u64) -> [i64; 66]
     ensures { λ r. ⌜ length r ≡ 66 ⌝ }
 {
     let mut list = [0i64; 66];

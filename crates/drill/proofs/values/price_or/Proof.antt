@@ -3,8 +3,8 @@ use Prim.Native.Nat.{_/_, _%_}
 use native.Mathlib.Omega.{arith}
 use Rattle.amounts.proofs.Steps.{quantity, fits, lit, _minus_}
 use borrow.Author.Needs.{needs}
-use Rattle.draws.proofs.values.price_or.Statement.{statement}
-use Rattle.draws.proofs.values.price_or.Tie as tie
+use Rattle.drill.proofs.values.price_or.Statement.{statement}
+use Rattle.drill.proofs.values.price_or.Tie as tie
 
 cast-result : tie.Need-cast-result
 cast-result c = search needs

@@ -1,8 +1,8 @@
 -- The measure is what is left of the 256 places.
 use Prim.Native.Nat.{_≤_, _-_}
 use borrow.Author.Needs.{needs}
-use Rattle.trials.proofs.all_mixed.Statement.{statement}
-use Rattle.trials.proofs.all_mixed.Tie as tie
+use Rattle.drill.proofs.trials.all_mixed.Statement.{statement}
+use Rattle.drill.proofs.trials.all_mixed.Tie as tie
 
 abbrev Inv-loop : tie.InvT-loop
 Inv-loop digest book next₀ i₀ next i = i ≤ 256

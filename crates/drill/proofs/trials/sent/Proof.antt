@@ -2,8 +2,8 @@
 use native.Mathlib.Omega.{arith}
 use lib.ListN.{length-take}
 use borrow.Author.Needs.{needs}
-use Rattle.trials.proofs.sent.Statement.{statement}
-use Rattle.trials.proofs.sent.Tie as tie
+use Rattle.drill.proofs.trials.sent.Statement.{statement}
+use Rattle.drill.proofs.trials.sent.Tie as tie
 
 mwh-count-requires : tie.Need-mwh-count-requires
 mwh-count-requires c κs = tt

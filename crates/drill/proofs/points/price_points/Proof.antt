@@ -3,8 +3,8 @@ use Prim.Native.Nat.{_-_}
 use mathlib.Core.Path.{_≡_}
 use lib.ListN.{length}
 use borrow.Author.Needs.{needs}
-use Rattle.draws.proofs.points.price_points.Statement.{statement}
-use Rattle.draws.proofs.points.price_points.Tie as tie
+use Rattle.drill.proofs.points.price_points.Statement.{statement}
+use Rattle.drill.proofs.points.price_points.Tie as tie
 
 abbrev Inv-loop : tie.InvT-loop
 Inv-loop seed list₀ x₀ i₀ list x i = length list ≡ 66

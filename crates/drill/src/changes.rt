@@ -1,13 +1,13 @@
 // How a book set aside is changed: one field of one place, the support, or a key that stands twice, at each limit of soundness and past it.
-use records::types::Record;
+use book::Record;
 
 // Fields, 13; for each, 8 values, 6 stages (0 is a free place) and 4 kinds.
-pub const COUNT: u64 = 2_496;
+pub(crate) const COUNT: u64 = 2_496;
 
 // The fields past a record's own.
-pub const SUPPORT: u64 = 11;
+pub(crate) const SUPPORT: u64 = 11;
 
-pub const TWICE: u64 = 12;
+pub(crate) const TWICE: u64 = 12;
 
 const I64_MAX: i64 = 9_223_372_036_854_775_807;
 
@@ -125,11 +125,11 @@ const VALUES: [i64; 96] = [
     I64_MIN,
 ];
 
-pub fn field(change: u64) -> u64 {
+pub(crate) fn field(change: u64) -> u64 {
     change / 192 % 13
 }
 
-pub fn value(change: u64) -> i64 {
+pub(crate) fn value(change: u64) -> i64 {
     VALUES[(change / 24 % 96) as usize]
 }
 
@@ -148,7 +148,7 @@ fn base(change: u64) -> Record {
     r
 }
 
-pub fn record(change: u64) -> Record {
+pub(crate) fn record(change: u64) -> Record {
     let cents = value(change);
     let v = amounts::magnitude(cents);
     let mut r = base(change);

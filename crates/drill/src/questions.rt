@@ -1,14 +1,15 @@
 // The import test and the lookup, each asked once a turn, beside its message.
+use crate::digest::mix;
+use crate::generator;
+use crate::generator::draw;
+use crate::rows::Counts;
 use crate::rows::LOOKS;
 use crate::rows::TESTS;
 use crate::rows::count;
+use crate::values;
+use crate::values::one_of;
 use chart::Answer;
 use chart::Table;
-use draws::digest::mix;
-use draws::generator;
-use draws::generator::draw;
-use draws::values;
-use draws::values::one_of;
 use history::History;
 use history::Window;
 use refusals::pick;
@@ -66,7 +67,7 @@ fn looked(seed: u64) -> Answer {
 }
 
 // Both are counted, and the digest goes on with their answers.
-pub fn answered(seed: u64, digest: u64, counts: &mut [u64; 300]) -> u64 {
+pub(crate) fn answered(seed: u64, digest: u64, counts: &mut Counts) -> u64 {
     let test = history(seed).import_test();
     let refused = test.number();
     let exempt = test.exempt();

@@ -1,45 +1,22 @@
 // What the drill does with a book: it sends a message, tries it on a book set aside and changed, and digests all that a book holds.
-use asks::Ask;
-use book::Answer;
+use crate::ask::Ask;
+use crate::changes;
+use crate::digest::mix;
+use crate::digest::mix_cents;
+use crate::digest::mix_record;
+use crate::generator;
+use crate::generator::draw;
+use crate::points;
+use crate::rows;
+use crate::rows::Counts;
+use crate::tally::Tally;
+use crate::values;
 use book::Book;
 use book::Outcome;
-use draws::changes;
-use draws::digest::mix;
-use draws::digest::mix_cents;
-use draws::digest::mix_record;
-use draws::generator;
-use draws::generator::draw;
-use draws::points;
-use draws::values;
 use refusals::pick;
-use tallies::rows;
-use tallies::tally::Reply;
-use tallies::tally::Tally;
-
-// An answer as numbers.
-pub fn replied(answer: Answer) -> Reply {
-    match answer {
-        Answer::Accepted {
-            requirement,
-            held,
-            owed,
-        } => Reply {
-            number: 0,
-            requirement,
-            held,
-            owed,
-        },
-        Answer::Refused { number, held, owed } => Reply {
-            number,
-            requirement: 0,
-            held,
-            owed,
-        },
-    }
-}
 
 // The message, with the turn's points beside it.
-pub fn sent(book: Book, ask: Ask, seed: u64) -> Outcome {
+pub(crate) fn sent(book: Book, ask: Ask, seed: u64) -> Outcome {
     let n = points::mwh_count(seed);
     let m = points::price_count(seed);
     let mwh = points::mwh_points(seed);
@@ -48,11 +25,11 @@ pub fn sent(book: Book, ask: Ask, seed: u64) -> Outcome {
 }
 
 // The held amount that the message would leave with the largest support.
-pub fn tried(book: Book, ask: Ask, seed: u64) -> i64 {
+pub(crate) fn tried(book: Book, ask: Ask, seed: u64) -> i64 {
     let mut aside = book;
     aside.support = values::MOST_SUPPORT;
     let answer = sent(aside, ask, seed).answer;
-    replied(answer).held
+    answer.held()
 }
 
 // All that a book holds.
@@ -68,7 +45,7 @@ fn all_mixed(book: Book, digest: u64) -> u64 {
 }
 
 // All that a book holds, and what a screen asks of it.
-pub fn shown(book: Book, digest: u64) -> u64 {
+pub(crate) fn shown(book: Book, digest: u64) -> u64 {
     let sums = mix_cents(
         mix_cents(all_mixed(book, digest), book.held()),
         book.net_owed(),
@@ -96,14 +73,13 @@ fn changed(book: Book, change: u64, w: u64) -> Book {
 }
 
 // The turn's message to the book changed, whose answer and next book are only looked at.
-pub fn probed(book: Book, tally: Tally, counts: &mut [u64; 300], ask: Ask) -> Tally {
+pub(crate) fn probed(book: Book, tally: Tally, counts: &mut Counts, ask: Ask) -> Tally {
     let change = tally.turn / 8 % changes::COUNT;
     let aside = changed(book, change, draw(tally.seed, generator::DAY) / 16);
     let sound = aside.is_sound();
     let outcome = sent(aside, ask, tally.seed);
     let answer = outcome.answer;
-    let reply = replied(answer);
-    let refused = reply.number == 1;
+    let refused = answer.number() == 1;
     rows::count(
         counts,
         rows::of_change(changes::field(change), sound, refused),
@@ -111,7 +87,7 @@ pub fn probed(book: Book, tally: Tally, counts: &mut [u64; 300], ask: Ask) -> Ta
     if refused {
         rows::count_answer(counts, tally.seed, ask.message, 1);
     }
-    let mut next = tally.answered(reply);
+    let mut next = tally.answered(answer);
     next.digest = mix(all_mixed(outcome.book, next.digest), pick(sound, 1, 0));
     next
 }

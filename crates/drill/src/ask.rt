@@ -1,44 +1,73 @@
 // What a turn asks of the book: its message, from the draws and the record at the place that was drawn.
 ghost use Prim.Native.Nat.{_<_};
-use draws::generator;
-use draws::generator::draw;
-use draws::generator::has;
-use draws::turns::BILL;
-use draws::turns::FINISH;
-use draws::turns::OPEN;
-use draws::turns::PAY;
-use draws::turns::POST;
-use draws::turns::REVISE;
-use draws::turns::SUPPORT;
-use draws::turns::Standing;
-use draws::turns::WITHDRAW;
-use draws::values;
-use draws::values::either;
-use draws::values::one_of;
-use draws::values::one_of_cents;
-use messages::types::Billing;
-use messages::types::Finishing;
-use messages::types::Funding;
-use messages::types::Message;
-use messages::types::Opening;
-use messages::types::Posting;
-use records::types::Key;
-use records::types::Record;
+use crate::generator;
+use crate::generator::draw;
+use crate::generator::has;
+use crate::values;
+use crate::values::either;
+use crate::values::one_of;
+use crate::values::one_of_cents;
+use book::Billing;
+use book::Finishing;
+use book::Funding;
+use book::Key;
+use book::Message;
+use book::Opening;
+use book::Posting;
+use book::Record;
 use refusals::pick;
 
-pub struct Ask {
-    pub message: u64,
-    pub key: Key,
-    pub differential: u64,
-    pub exempt: bool,
-    pub quantity: u64,
-    pub price: i64,
-    pub second: i64,
-    pub cents: i64,
+pub(crate) struct Ask {
+    pub(crate) message: u64,
+    pub(crate) key: Key,
+    pub(crate) differential: u64,
+    pub(crate) exempt: bool,
+    pub(crate) quantity: u64,
+    pub(crate) price: i64,
+    pub(crate) second: i64,
+    pub(crate) cents: i64,
+}
+
+// The messages by number.
+impl Ask {
+    pub(crate) const OPEN: u64 = 1;
+
+    pub(crate) const REVISE: u64 = 2;
+
+    pub(crate) const WITHDRAW: u64 = 3;
+
+    pub(crate) const POST: u64 = 4;
+
+    pub(crate) const FINISH: u64 = 5;
+
+    pub(crate) const BILL: u64 = 6;
+
+    pub(crate) const PAY: u64 = 7;
+
+    pub(crate) const SUPPORT: u64 = 8;
+}
+
+// How the book stands when a message is drawn: the season of the run, its open records, and what it last answered. `again`: the
+// turn's own message is still to come, after a support that was set for it.
+pub(crate) struct Standing {
+    pub(crate) season: u64,
+    pub(crate) open: u64,
+    pub(crate) again: bool,
+    pub(crate) held: i64,
+    pub(crate) owed: i64,
+}
+
+// The seasons: the book is filled, its records are taken on, it is emptied to a few.
+impl Standing {
+    pub(crate) const FILLS: u64 = 0;
+
+    pub(crate) const TAKES_ON: u64 = 1;
+
+    pub(crate) const EMPTIES: u64 = 2;
 }
 
 // One of the first so many places, or any.
-pub fn place(seed: u64, open: u64) -> usize
+pub(crate) fn place(seed: u64, open: u64) -> usize
     ensures { λ r. ⌜ r < 256 ⌝ }
 {
     let w = draw(seed, generator::PLACE);
@@ -50,31 +79,31 @@ pub fn place(seed: u64, open: u64) -> usize
 fn onward(r: Record) -> u64 {
     let stage = r.stage;
     match stage {
-        0 => OPEN,
-        1 => pick(r.key.kind == Key::HOUR_AHEAD_EXPORT, FINISH, POST),
-        2 => FINISH,
-        3 => BILL,
-        _ => PAY,
+        0 => Ask::OPEN,
+        1 => pick(r.key.kind == Key::HOUR_AHEAD_EXPORT, Ask::FINISH, Ask::POST),
+        2 => Ask::FINISH,
+        3 => Ask::BILL,
+        _ => Ask::PAY,
     }
 }
 
 fn message_of(w: u64, now: Standing, r: Record) -> u64 {
     let any = w / 2 % 8 + 1;
-    let empties = now.season == 2;
+    let empties = now.season == Standing::EMPTIES;
     let many = empties & (3 <= now.open);
     let leaves = empties & (r.stage == Record::BID);
     let led = pick(
         many & (r.stage == 0),
-        SUPPORT,
-        pick(leaves, WITHDRAW, onward(r)),
+        Ask::SUPPORT,
+        pick(leaves, Ask::WITHDRAW, onward(r)),
     );
-    let other = pick(now.season == 0, OPEN, led);
-    pick((w % 2 == 0) & !(many & (any == OPEN)), any, other)
+    let other = pick(now.season == Standing::FILLS, Ask::OPEN, led);
+    pick((w % 2 == 0) & !(many & (any == Ask::OPEN)), any, other)
 }
 
 // Whether the key is that of the record at the place drawn: seldom for an open, mostly for the others.
-pub fn from_place(seed: u64, message: u64) -> bool {
-    (message == OPEN) == (draw(seed, generator::SOURCE) % 8 == 0)
+pub(crate) fn from_place(seed: u64, message: u64) -> bool {
+    (message == Ask::OPEN) == (draw(seed, generator::SOURCE) % 8 == 0)
 }
 
 fn key_of(seed: u64, r: Record, from: bool) -> Key {
@@ -143,7 +172,7 @@ fn second_of(seed: u64, kind: u64) -> i64 {
 }
 
 fn support_of(w: u64, now: Standing) -> i64 {
-    let filling = now.season == 0;
+    let filling = now.season == Standing::FILLS;
     let around_held = values::near(amounts::magnitude(now.held), w / 8);
     let around_owed = values::near(values::doubled(now.owed), w / 8);
     match w % 8 {
@@ -158,7 +187,7 @@ fn support_of(w: u64, now: Standing) -> i64 {
 fn amount_of(seed: u64, message: u64, now: Standing) -> i64 {
     let w = draw(seed, generator::AMOUNT);
     let fault = has(seed, 9);
-    if message == BILL {
+    if message == Ask::BILL {
         return either(
             fault,
             one_of_cents(values::BILLS_OUT, w),
@@ -173,7 +202,7 @@ fn amount_of(seed: u64, message: u64, now: Standing) -> i64 {
 }
 
 impl Ask {
-    pub fn of(seed: u64, r: Record, now: Standing) -> Ask {
+    pub(crate) fn of(seed: u64, r: Record, now: Standing) -> Ask {
         let message = message_of(draw(seed, generator::MESSAGE), now, r);
         let key = key_of(seed, r, from_place(seed, message));
         Ask {
@@ -189,16 +218,16 @@ impl Ask {
     }
 
     // Whether the turn sets the support for its own message first.
-    pub fn is_tight(self, seed: u64, now: Standing) -> bool {
+    pub(crate) fn is_tight(self, seed: u64, now: Standing) -> bool {
         let w = draw(seed, generator::TIGHT);
-        let drawn = (w % 8 == 0) & (!(now.season == 0) | (w / 8 % 8 == 0));
-        (self.message <= REVISE) & !now.again & drawn
+        let drawn = (w % 8 == 0) & (!(now.season == Standing::FILLS) | (w / 8 % 8 == 0));
+        (self.message <= Ask::REVISE) & !now.again & drawn
     }
 
     // A support message in its place, around the held amount that its own message would leave.
-    pub fn funding(self, seed: u64, held: i64) -> Ask {
+    pub(crate) fn funding(self, seed: u64, held: i64) -> Ask {
         let mut next = self;
-        next.message = SUPPORT;
+        next.message = Ask::SUPPORT;
         next.cents = values::near(amounts::magnitude(held), draw(seed, generator::TIGHT) / 64);
         next
     }
@@ -221,31 +250,31 @@ impl Ask {
         let cents = self.cents;
         let message = self.message;
         match message {
-            4 => Message::Post(Posting {
+            Ask::POST => Message::Post(Posting {
                 key,
                 schedule: quantity,
                 price,
                 second,
             }),
-            5 => Message::Finish(Finishing {
+            Ask::FINISH => Message::Finish(Finishing {
                 key,
                 actual: quantity,
                 price,
                 second,
             }),
-            6 => Message::Bill(Billing { key, cents }),
+            Ask::BILL => Message::Bill(Billing { key, cents }),
             _ => Message::Support(Funding { cents }),
         }
     }
 
-    pub fn message(self) -> Message {
+    pub(crate) fn message(self) -> Message {
         let key = self.key;
         let message = self.message;
         match message {
-            1 => Message::Open(self.opening()),
-            2 => Message::Revise(self.opening()),
-            3 => Message::Withdraw(key),
-            7 => Message::Pay(key),
+            Ask::OPEN => Message::Open(self.opening()),
+            Ask::REVISE => Message::Revise(self.opening()),
+            Ask::WITHDRAW => Message::Withdraw(key),
+            Ask::PAY => Message::Pay(key),
             _ => self.figured(),
         }
     }

@@ -3,8 +3,8 @@ use Prim.Native.Nat.{_≤_, _%_}
 use native.Mathlib.Omega.{arith}
 use Rattle.amounts.proofs.Signed.{mul-mono}
 use borrow.Author.Needs.{needs}
-use Rattle.draws.proofs.generator.draw.Statement.{statement}
-use Rattle.draws.proofs.generator.draw.Tie as tie
+use Rattle.drill.proofs.generator.draw.Statement.{statement}
+use Rattle.drill.proofs.generator.draw.Tie as tie
 
 power-requires : tie.Need-power-requires
 power-requires c κs = search needs
