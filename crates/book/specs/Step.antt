@@ -1,12 +1,12 @@
 -- Document 01, 'Messages and stages' and 'Turned away, and why': what a message answers, and the next book.
--- A message's refusals 2 to 13 and what it asks for stand in crate `messages`, specs/Plan.antt; refusals 14 to 16 in crate `credit`, specs/Credit.antt.
+-- The table of refusals is specs/Refusals.antt; what a message asks for stands in crate `messages`, specs/Plan.antt.
 -- Assumes nothing.
-use mathlib.Core.Bool.{not, cond}
-use mathlib.Core.List.{List, _∷_, _++_}
+use mathlib.Core.Bool.{cond}
+use mathlib.Core.List.{List}
 use Prim.Native.Nat.{ℕ}
 use lib.IntN.{ℤ, pos}
 use Rattle.amounts.specs.Limits.{isSupport}
-use Rattle.refusals.specs.Refusals.{Row, row, Verdict, refuse, accept, judge}
+use Rattle.refusals.specs.Refusals.{Verdict, refuse, accept, judge}
 use Rattle.records.specs.declared.types.Record.{Record}
 use Rattle.messages.specs.declared.types.Message.{Message}
 use Rattle.messages.specs.declared.types.Change.{Change}
@@ -14,26 +14,23 @@ use Rattle.messages.specs.declared.types.Change.the-variants.{Add, Rebid, Advan
 use Rattle.messages.specs.declared.types.Deed.{Deed}
 use Rattle.messages.specs.declared.types.Deed.the-variants.{Keyed, SetSupport}
 use Rattle.records.specs.Records.{blank, isFree, at}
-use Rattle.messages.specs.Plan.{keyOf, deedFor, planRows}
+use Rattle.messages.specs.Plan.{keyOf, deedFor}
 use Rattle.endings.specs.declared.types.Answer.the-variants.{Accepted, Refused}
 pub use Rattle.book.specs.declared.types.Outcome.{Outcome}
 use Rattle.book.specs.Places.{swap}
 use Rattle.credit.specs.declared.types.Account.{Account}
 use Rattle.credit.specs.Account.{supported}
-use Rattle.credit.specs.Credit.{creditRows, answeredBy}
-use Rattle.book.specs.Books.{Book, lookup, sound, held, owed, totals, heldAnswered, owedAnswered, empty}
+use Rattle.credit.specs.Credit.{answeredBy}
+use Rattle.book.specs.Books.{Book, lookup, held, owed, heldAnswered, owedAnswered, empty}
+use Rattle.book.specs.Refusals.{table}
 
--- ---- all the refusals that concern a message, in the paper's order
+-- ---- accepted or refused
 
+-- what a message asks for
 unfoldable pub deedOf : Book → Message → List ℕ → List ℤ → Deed
 deedOf b m mwhs prices = deedFor (lookup b (keyOf m)) m mwhs prices
 
-unfoldable pub table : Book → Message → List ℕ → List ℤ → List Row
-table b m mwhs prices =
-    row 1 (not (sound b)) ∷ (planRows (lookup b (keyOf m)) m mwhs prices ++ creditRows (totals b) (deedOf b m mwhs prices))
-
--- accepted exactly when none of them applies, else the first. proofs/Verdicts.antt has it in the two parts that the table is made of,
--- 2 to 13 by the message and its record, then 14 to 16 by the totals (verdict-is)
+-- accepted exactly when no row of the table applies, else the first
 unfoldable pub verdict : Book → Message → List ℕ → List ℤ → Verdict Deed
 verdict b m mwhs prices = judge (table b m mwhs prices) (deedOf b m mwhs prices)
 
