@@ -24,7 +24,8 @@ use Rattle.messages.specs.Plan.{bidFor, postedFor, finishedFor, stageRows}
 use Rattle.credit.specs.Credit.{owes, suspended}
 use Rattle.book.specs.Places.{find, swap, missing, orElseBlank}
 use Rattle.book.specs.Books.{lookup, distinct, sound, held, owed, full, totals, noRecords}
-use Rattle.book.specs.Step.{deedOf, table, verdict, change, done, outcome, step, fresh}
+use Rattle.book.specs.Refusals.{table}
+use Rattle.book.specs.Step.{deedOf, verdict, change, done, outcome, step, fresh}
 use Rattle.demands.specs.Runs.{after}
 use Rattle.demands.specs.Three.{Accepted, requirements, Dealt, whole, part, owner, Follows, Fair, wholeBook, sideBook, DemandThree}
 use Rattle.demands.proofs.Three.{demand-three}
