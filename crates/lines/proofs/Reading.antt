@@ -10,7 +10,7 @@ use lib.Dec.{leb}
 use lib.ListN.{length, getD, drop, drop-of-length-le}
 use lib.Seq.{drop-cons}
 use borrow.Author.Tests.{leb-true}
-use Rattle.amounts.specs.Lists.{bit}
+use Rattle.lines.specs.Numbers.{bit}
 use Rattle.amounts.proofs.Steps.{arm-yes, arm-no}
 use Rattle.lines.specs.Numbers.{isDigit, longer, read, begins, Number, numberAt, numbersAfter}
 

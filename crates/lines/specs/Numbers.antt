@@ -1,6 +1,6 @@
 -- The numbers of a line, which is a list of bytes: what `numbers.rt` reads.
 -- Assumes nothing.
-use mathlib.Core.Bool.{Bool, false, not, _&&_, cond}
+use mathlib.Core.Bool.{Bool, true, false, not, _&&_, cond}
 use mathlib.Core.List.{List, [], _∷_}
 use Prim.Native.Nat.{ℕ, _+_, _*_, _-_}
 use lib.Dec.{ltb, leb, eqb}
@@ -31,6 +31,11 @@ pub record Number : Type 0 where
 -- A number begins at a digit that follows no other: it is all the digits from there on.
 abbrev pub begins : ℕ → ℕ → Bool
 begins last byte = isDigit byte && not (isDigit last)
+
+-- How many begin at a byte, for the code's own steps: one or none.
+abbrev pub bit : Bool → ℕ
+bit true = 1
+bit false = 0
 
 -- The byte before a number tells its sign: '-' is below 0.
 unfoldable pub numberAt : ℕ → List ℕ → Number

@@ -3,8 +3,7 @@ ghost use mathlib.Core.Bool.{true};
 ghost use mathlib.Core.Path.{_≡_};
 ghost use Prim.Native.Nat.{_<_};
 ghost use lib.ListN.{length, drop};
-ghost use Rattle.amounts.specs.Lists.{bit};
-ghost use Rattle.lines.specs.Numbers.{isDigit, longer, read, begins, countOf, numberOf, wholeOf, withSign, signedOf};
+ghost use Rattle.lines.specs.Numbers.{isDigit, longer, read, begins, bit, countOf, numberOf, wholeOf, withSign, signedOf};
 
 const MOST: u64 = 1_000_000_000_000_000_000;
 

@@ -1,6 +1,6 @@
 -- `numbers::begun`: the two arms are the two bits.
 use mathlib.Core.Path.{sym, ap, _∙_}
-use Rattle.amounts.specs.Lists.{bit}
+use Rattle.lines.specs.Numbers.{bit}
 use borrow.Author.Needs.{needs}
 use Rattle.lines.proofs.numbers.begun.Statement.{statement}
 use Rattle.lines.proofs.numbers.begun.Tie as tie
