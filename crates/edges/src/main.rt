@@ -4,6 +4,7 @@
 // a book that no message makes (`write` a place, `endow` with a support).
 mod act;
 mod say;
+mod scripts;
 
 ghost use Prim.Native.Nat.{_≤_};
 ghost use lib.ListN.{length};

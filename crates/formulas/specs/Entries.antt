@@ -16,9 +16,9 @@ postedVerdict kind differential exempt schedule price second =
 
 -- stage 3
 unfoldable pub finishedVerdict : ℕ → Bool → ℕ → ℤ → ℤ → ℕ → ℤ → ℤ → Verdict ℤ
-finishedVerdict kind exempt schedule dayAhead posted actual price second =
-    judge (kindRow kind ∷ finishedRows kind schedule dayAhead posted actual price second)
-    (finishedRequirement kind exempt schedule dayAhead posted actual price second)
+finishedVerdict kind exempt schedule dayAhead postedCents actual price second =
+    judge (kindRow kind ∷ finishedRows kind schedule dayAhead postedCents actual price second)
+    (finishedRequirement kind exempt schedule dayAhead postedCents actual price second)
 
 -- stage 4: 'Billed, every kind: the bill, signed'
 unfoldable pub billedVerdict : ℤ → Verdict ℤ

@@ -1,3 +1,4 @@
 pub mod Rows
 pub mod Stages
 pub mod Entries
+pub mod Worked

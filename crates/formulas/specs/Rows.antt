@@ -22,10 +22,10 @@ postedRows kind differential schedule price second =
 
 -- of the finished amount: 6, 7, and 9 of the posted amount that it starts from
 unfoldable pub finishedRows : ℕ → ℕ → ℤ → ℤ → ℕ → ℤ → ℤ → List Row
-finishedRows kind schedule dayAhead posted actual price second =
+finishedRows kind schedule dayAhead postedCents actual price second =
     row 6 (not (isQuantity schedule && isQuantity actual))
     ∷ row 7 (not (isPrice dayAhead && pricesFit (rulesOf kind) price second))
-    ∷ row 9 (not (pendingFits (rulesOf kind) posted))
+    ∷ row 9 (not (pendingFits (rulesOf kind) postedCents))
     ∷ []
 
 -- of a bill: 9

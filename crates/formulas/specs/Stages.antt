@@ -29,7 +29,7 @@ exportPosted schedule dayAhead differential = pos schedule *ℤ Max dayAhead (po
 
 -- 'Finished, kind 2: the posted amount - Max((schedule - actual) x real-time price, 0) + Max((actual - schedule) x real-time price, 0)'
 unfoldable pub exportFinished : ℤ → ℕ → ℕ → ℤ → ℤ
-exportFinished posted schedule actual realTime = posted -ℤ balancing schedule actual realTime +ℤ balancing actual schedule realTime
+exportFinished postedCents schedule actual realTime = postedCents -ℤ balancing schedule actual realTime +ℤ balancing actual schedule realTime
 
 -- 'Finished, kind 3: Max(actual x real-time price, 0)'
 unfoldable pub hourAheadFinished : ℕ → ℤ → ℤ
@@ -43,8 +43,8 @@ wheelPosted schedule withdrawal injection = Max (pos schedule *ℤ (withdrawal -
 
 -- 'Finished: posted - Max(schedule - actual, 0) x difference + Max(Max(actual - schedule, 0) x difference, 0)'
 unfoldable pub wheelFinished : ℤ → ℕ → ℕ → ℤ → ℤ → ℤ
-wheelFinished posted schedule actual withdrawal injection =
-    posted -ℤ Max (pos schedule -ℤ pos actual) (pos 0) *ℤ (withdrawal -ℤ injection)
+wheelFinished postedCents schedule actual withdrawal injection =
+    postedCents -ℤ Max (pos schedule -ℤ pos actual) (pos 0) *ℤ (withdrawal -ℤ injection)
     +ℤ Max (Max (pos actual -ℤ pos schedule) (pos 0) *ℤ (withdrawal -ℤ injection)) (pos 0)
 
 -- ---- by kind
@@ -54,10 +54,10 @@ unfoldable pub postedRequirement : ℕ → ℕ → Bool → ℕ → ℤ → ℤ 
 postedRequirement kind differential exempt schedule price second =
     byKind kind (unlessExempt exempt (importPosted schedule differential)) (exportPosted schedule price differential) (pos 0) (wheelPosted schedule price second) (pos 0)
 
--- stage 3; `posted` is the requirement that the record holds at stage 2, `dayAhead` the price that it keeps
+-- stage 3; `postedCents` is the requirement that the record holds at stage 2, `dayAhead` the price that it keeps
 unfoldable pub finishedRequirement : ℕ → Bool → ℕ → ℤ → ℤ → ℕ → ℤ → ℤ → ℤ
-finishedRequirement kind exempt schedule dayAhead posted actual price second =
-    byKind kind (unlessExempt exempt (importFinished schedule dayAhead actual price)) (exportFinished posted schedule actual price)
+finishedRequirement kind exempt schedule dayAhead postedCents actual price second =
+    byKind kind (unlessExempt exempt (importFinished schedule dayAhead actual price)) (exportFinished postedCents schedule actual price)
     (hourAheadFinished actual price)
-    (wheelFinished posted schedule actual price second)
+    (wheelFinished postedCents schedule actual price second)
     (pos 0)

@@ -88,7 +88,7 @@ hourAheadRules = rules 999 true 640000 640000000000 0 false 1 false never bidSta
 abbrev pub wheelRules : Rules
 wheelRules = rules 999 false 10000 20000000000 0 false 2 false bidStage postedStage finishedStage
 
--- of what is no kind nothing fits
+-- what is no kind has no path, no stage and no limit above 0
 abbrev pub noRules : Rules
 noRules = rules 0 false 0 0 0 false 1 false never never never
 

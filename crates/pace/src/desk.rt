@@ -1,11 +1,11 @@
 // What the desk sends: each group in turn goes through its life, and is open again at its end. An empty book has support 0, so that none is opened there.
-use messages::types::Billing;
-use messages::types::Finishing;
-use messages::types::Funding;
-use messages::types::Message;
-use messages::types::Opening;
-use messages::types::Posting;
-use records::types::Key;
+use book::Billing;
+use book::Finishing;
+use book::Funding;
+use book::Key;
+use book::Message;
+use book::Opening;
+use book::Posting;
 
 // The kinds in turn; an hour is given once.
 fn key(group: u64) -> Key {

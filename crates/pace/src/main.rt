@@ -4,10 +4,10 @@ mod desk;
 
 use book::Answer;
 use book::Book;
+use book::Message;
 use book::Outcome;
 use libc::STDIN_FILENO;
 use libc::STDOUT_FILENO;
-use messages::types::Message;
 
 const MODULUS: u64 = 2_147_483_647;
 
@@ -55,23 +55,15 @@ fn mix(digest: u64, value: u64) -> u64 {
 }
 
 // The refusal's number, or 0, and the amounts.
-fn four(digest: u64, number: u64, requirement: i64, held: i64, owed: i64) -> u64 {
-    let first = mix(mix(digest, number), amounts::magnitude(requirement));
-    mix(
-        mix(first, amounts::magnitude(held)),
-        amounts::magnitude(owed),
-    )
-}
-
 fn mixed(digest: u64, answer: Answer) -> u64 {
-    match answer {
-        Answer::Accepted {
-            requirement,
-            held,
-            owed,
-        } => four(digest, 0, requirement, held, owed),
-        Answer::Refused { number, held, owed } => four(digest, number, 0, held, owed),
-    }
+    let first = mix(
+        mix(digest, answer.number()),
+        amounts::magnitude(answer.requirement()),
+    );
+    mix(
+        mix(first, amounts::magnitude(answer.held())),
+        amounts::magnitude(answer.net_owed()),
+    )
 }
 
 // The outcome is kept whole from one message to the next, so that a book is not copied here.

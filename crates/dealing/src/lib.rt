@@ -1,1 +1,0 @@
-// Demand 3: theorems alone, over the book's own definitions.

@@ -1,0 +1,66 @@
+-- The number that is answered: accepted exactly when no row applies, else the first that does; and what a refusal gives back.
+-- Assumes nothing.
+use mathlib.Core.Path.{_≡_, refl, sym, _∙_, subst}
+use mathlib.Core.Bool.{Bool, true, false, cond}
+use mathlib.Core.List.{List}
+use Prim.Native.Nat.{ℕ}
+use lib.Dec.{eqb}
+use lib.IntN.{ℤ}
+use borrow.Author.Tests.{eqb-true}
+use Rattle.refusals.specs.Refusals.{first, refuse, accept, answered, judge, None, First, numbered}
+use Rattle.refusals.proofs.Laws.{none-applies, none-first, first-applies, first-is, numbered-append}
+use Rattle.messages.specs.declared.types.Message.{Message}
+use Rattle.messages.specs.declared.types.Deed.{Deed}
+use Rattle.messages.specs.Plan.{keyOf, planRows}
+use Rattle.messages.proofs.Fits.{plan-rows-numbered}
+use Rattle.credit.proofs.Rows.{credit-rows-numbered}
+use Rattle.credit.specs.Credit.{creditRows}
+use Rattle.book.specs.declared.types.Book.{Book}
+use Rattle.book.specs.Books.{lookup, totals, heldShown, owedShown}
+use Rattle.endings.specs.Answers.{reply}
+use Rattle.book.specs.Step.{deedOf, table, verdict, outcome, step}
+use Rattle.demands.specs.Runs.{nextBook, replied}
+use Rattle.demands.specs.One.{Refusal}
+
+module _ (b : Book) (m : Message) (ms : List ℕ) (ps : List ℤ) where
+  pub table-numbered : numbered (table b m ms ps) ≡ true
+  unfolding table numbered
+  table-numbered =
+      numbered-append (planRows (lookup b (keyOf m)) m ms ps) (creditRows (totals b) (deedOf b m ms ps)) (plan-rows-numbered (lookup b (keyOf m)) m ms ps)
+      (credit-rows-numbered (totals b) (deedOf b m ms ps))
+
+  number-by : (n : ℕ) (d : Deed) (t : Bool) → eqb n 0 ≡ t → reply (outcome b (cond t (accept d) (refuse n)) .answer) .number ≡ n
+  unfolding outcome
+  number-by n d true e = sym (eqb-true n 0 e)
+  number-by n d false e = refl
+
+  -- the number that is answered is the first row of the table that applies; 0 is none
+  pub number-is : replied b m ms ps .number ≡ first (table b m ms ps)
+  unfolding step verdict judge answered
+  number-is = number-by (first (table b m ms ps)) (deedOf b m ms ps) (eqb (first (table b m ms ps)) 0) refl
+
+  -- 'accepted exactly when none of document 01's refusals applies'
+  pub accepted-none : replied b m ms ps .number ≡ 0 → None (table b m ms ps)
+  accepted-none h = none-applies (table b m ms ps) table-numbered (sym number-is ∙ h)
+
+  pub none-accepted : None (table b m ms ps) → replied b m ms ps .number ≡ 0
+  none-accepted h = number-is ∙ none-first (table b m ms ps) h
+
+  -- 'else the first in 01's order'
+  pub refused-first : (replied b m ms ps .number ≡ 0 → ⊥) → First (replied b m ms ps .number) (table b m ms ps)
+  refused-first h =
+      subst (λ (n : ℕ). First n (table b m ms ps)) (sym number-is) (first-applies (table b m ms ps) (λ z. h (number-is ∙ z)))
+
+  pub first-refused : (n : ℕ) → First n (table b m ms ps) → replied b m ms ps .number ≡ n
+  first-refused n h = number-is ∙ first-is n (table b m ms ps) h
+
+  unchanged-by : (n : ℕ) (d : Deed) (t : Bool) → eqb n 0 ≡ t → (n ≡ 0 → ⊥)
+      → let o = outcome b (cond t (accept d) (refuse n)) in Refusal b (o .book) (reply (o .answer))
+  unfolding outcome heldShown owedShown
+  unchanged-by n d true e h = absurd (h (eqb-true n 0 e))
+  unchanged-by n d false e h = record { book = refl; requirement = refl; held = refl; owed = refl }
+
+  -- 'A refusal gives back the same book'
+  pub unchanged : (replied b m ms ps .number ≡ 0 → ⊥) → Refusal b (nextBook b m ms ps) (replied b m ms ps)
+  unfolding step verdict judge answered
+  unchanged h = let n = first (table b m ms ps) in unchanged-by n (deedOf b m ms ps) (eqb n 0) refl (λ z. h (number-is ∙ z))

@@ -1,0 +1,129 @@
+-- A run of thirteen messages that the book accepts, with a support change and a key that is paid, opened again and dealt to the other side. The amounts are computed.
+-- Assumes nothing.
+use mathlib.Core.Path.{_≡_, refl, sym}
+use mathlib.Core.Bool.{Bool, true, false}
+use mathlib.Core.List.{List, [], _∷_}
+use Prim.Native.Nat.{ℕ}
+use lib.IntN.{ℤ, pos, negsuc}
+use Rattle.amounts.specs.Lists.{sum, every}
+use Rattle.refusals.specs.Refusals.{first, answered, judge}
+use Rattle.refusals.proofs.Laws.{never}
+use Rattle.kinds.specs.Kinds.{unlessExempt, byKind}
+use Rattle.bids.specs.Rows.{pointRows, bidRows}
+use Rattle.bids.specs.Bids.{importBid, exportBid, hourAheadBid, bidMwh, bidRequirement}
+use Rattle.bids.specs.Entries.{bidVerdict}
+use Rattle.bids.specs.Points.{largestMwh, totalMwh, mwhAt, tried, exposure, wheelExposure}
+use Rattle.deliveries.specs.Rows.{deliveryRows, postedRows, finishedRows, billRows}
+use Rattle.formulas.specs.Stages.{importPosted, balancing, importFinished, exportPosted, exportFinished, hourAheadFinished, wheelPosted, wheelFinished, postedRequirement, finishedRequirement}
+use Rattle.formulas.specs.Entries.{postedVerdict, finishedVerdict}
+use Rattle.records.specs.declared.types.Key.{Key}
+use Rattle.records.specs.Records.{isBlank, isFree, sameKey, at, okRecord, okPlace, keyRows}
+use Rattle.messages.specs.declared.types.Message.{Message}
+use Rattle.messages.specs.declared.types.Message.the-variants.{Open, Post, Finish, Bill, Pay, Support}
+use Rattle.messages.specs.Plan.{bidFor, postedFor, finishedFor, stageRows}
+use Rattle.credit.specs.Credit.{suspended}
+use Rattle.credit.specs.Weights.{owes}
+use Rattle.book.specs.Places.{find, swap, missing, orElseBlank}
+use Rattle.book.specs.Books.{lookup, distinct, sound, held, owed, full, totals, noRecords}
+use Rattle.book.specs.Step.{deedOf, table, verdict, change, done, outcome, step, fresh}
+use Rattle.demands.specs.Runs.{after}
+use Rattle.demands.specs.Three.{Accepted, requirements, Dealt, whole, part, owner, Follows, Fair, wholeBook, sideBook, DemandThree}
+use Rattle.demands.proofs.Three.{demand-three}
+
+abbrev key : ℕ → Key
+key kind = record { kind = kind; path = 7; hour = 12 }
+
+abbrev dealt : Bool → Message → Dealt
+dealt side m = record { side = side; sent = record { message = m; mwhs = []; prices = [] } }
+
+-- the points of W4
+abbrev openExport : Bool → ℕ → ℕ → Dealt
+openExport side kind differential =
+    record {
+      side = side;
+      sent =
+          record {
+            message = Open (record { key = key kind; differential = differential; exempt = false });
+            mwhs = 100 ∷ 90 ∷ 80 ∷ 70 ∷ [];
+            prices = pos 1000 ∷ pos 1500 ∷ pos 3000 ∷ pos 4500 ∷ [];
+          };
+    }
+
+-- those of W1, and of W9
+abbrev openImport : Dealt
+openImport =
+    record {
+      side = false;
+      sent =
+          record {
+            message = Open (record { key = key 1; differential = 6000; exempt = false });
+            mwhs = 27 ∷ 61 ∷ 100 ∷ [];
+            prices = pos 4600 ∷ pos 5500 ∷ pos 5800 ∷ [];
+          };
+    }
+
+abbrev openWheel : Dealt
+openWheel =
+    record {
+      side = true;
+      sent =
+          record {
+            message = Open (record { key = key 4; differential = 0; exempt = false });
+            mwhs = 30 ∷ 40 ∷ 50 ∷ [];
+            prices = negsuc 499 ∷ negsuc 399 ∷ pos 200 ∷ [];
+          };
+    }
+
+-- a support of 1,100,000, which the first two bids fill but for 50,000
+abbrev support : ℤ
+support = pos 1100000
+
+-- true has kind 2's first transaction, false its second
+abbrev run : List Dealt
+run =
+    openExport true 2 1200
+    ∷ openImport
+    ∷ dealt true (Post (record { key = key 2; schedule = 100; price = pos 5000; second = pos 0 }))
+    ∷ dealt false (Post (record { key = key 1; schedule = 50; price = pos 4000; second = pos 0 }))
+    ∷ dealt true (Finish (record { key = key 2; actual = 90; price = pos 4000; second = pos 0 }))
+    ∷ dealt false (Support (record { cents = pos 1500000 }))
+    ∷ dealt true (Bill (record { key = key 2; cents = pos 460000 }))
+    ∷ openWheel
+    ∷ dealt true (Pay (key 2))
+    ∷ openExport false 2 1400
+    ∷ dealt false (Finish (record { key = key 1; actual = 10; price = pos 6000; second = pos 0 }))
+    ∷ openExport true 3 0
+    ∷ dealt false (Bill (record { key = key 1; cents = pos 25000 }))
+    ∷ []
+
+-- before the run no key is open, so it is all one whose each is
+abbrev atFirst : Key → Bool
+atFirst k = false
+
+record Seen : Type 0 where
+  accepted : Accepted (fresh support .book) (whole run)
+  fair : Fair atFirst run
+  -- among them W4, W1, W2, W7, W9, W5 and W3
+  answered-each :
+      requirements (fresh support .book) (whole run)
+      ≡ pos 450000 ∷ pos 600000 ∷ pos 500000 ∷ pos 300000 ∷ pos 460000 ∷ pos 0 ∷ pos 460000 ∷ pos 16000 ∷ pos 0 ∷ pos 476000 ∷ pos 40000 ∷ pos 450000 ∷ pos 25000 ∷ []
+  whole-held : held (wholeBook support run) ≡ pos 967000
+  false-held : held (sideBook false run) ≡ pos 501000
+  true-held : held (sideBook true run) ≡ pos 466000
+  whole-owed : owed (wholeBook support run) ≡ pos 25000
+
+seen : Seen
+unfolding Accepted requirements Fair Follows owner whole part after fresh step verdict outcome done change deedOf table judge answered first lookup find swap missing orElseBlank sound every distinct okPlace okRecord isBlank isFree sameKey at noRecords totals held owed owes full suspended sum bidFor postedFor finishedFor keyRows stageRows pointRows deliveryRows bidRows postedRows finishedRows billRows bidVerdict postedVerdict finishedVerdict bidMwh bidRequirement postedRequirement finishedRequirement byKind importBid importPosted balancing importFinished unlessExempt exportBid hourAheadBid exportPosted exportFinished hourAheadFinished wheelPosted wheelFinished largestMwh totalMwh mwhAt tried exposure wheelExposure
+seen =
+    record {
+      accepted = (refl, (refl, (refl, (refl, (refl, (refl, (refl, (refl, (refl, (refl, (refl, (refl, (refl, tt)))))))))))));
+      fair = (λ h e. never (sym e), (λ h e. never (sym e), (λ h e. refl, (λ h e. refl, (λ h e. refl, (λ h e. never h, (λ h e. refl, (λ h e. never (sym e), (λ h e. refl, (λ h e. never (sym e), (λ h e. refl, (λ h e. never (sym e), (λ h e. refl, tt)))))))))))));
+      answered-each = refl;
+      whole-held = refl;
+      false-held = refl;
+      true-held = refl;
+      whole-owed = refl;
+    }
+
+pub example : DemandThree atFirst support run
+example = demand-three atFirst support run (seen .fair) (seen .accepted)

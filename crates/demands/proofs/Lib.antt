@@ -1,0 +1,15 @@
+pub mod Answers
+pub mod Unsound
+pub mod Accepted
+pub mod Soundness
+pub mod One
+pub mod Requirements
+pub mod Two
+pub mod Top
+pub mod Room
+pub mod Deal
+pub mod DealtRuns
+pub mod Fresh
+pub mod Three
+pub mod Joining
+pub mod Example

@@ -1,0 +1,108 @@
+-- Demand 2: what an accepted message sets, and what is read of a book's sums.
+-- Assumes nothing.
+use mathlib.Core.Path.{_≡_, refl, sym, ap, ap₂, _∙_, subst}
+use mathlib.Core.Bool.{true}
+use mathlib.Core.List.{List, [], _∷_}
+use mathlib.Core.Logic.{_↔_}
+use Prim.Native.Nat.{ℕ}
+use lib.Dec.{T}
+use lib.IntN.{ℤ, pos, _+ℤ_, _*ℤ_}
+use lib.Signed.{leZ, _≤ℤ_, leZ-yes}
+use Rattle.amounts.specs.Lists.{sum, total, every}
+use Rattle.amounts.proofs.Signed.{tested}
+use Rattle.refusals.proofs.Laws.{and-left, and-right}
+use Rattle.records.specs.declared.types.Record.{Record}
+use Rattle.records.specs.Records.{isFree, okPlace}
+use Rattle.records.proofs.Keys.{place-free}
+use Rattle.messages.specs.declared.types.Message.{Message}
+use Rattle.messages.specs.declared.types.Message.the-variants.{Open, Revise, Withdraw, Post, Finish, Bill, Pay, Support}
+use Rattle.messages.specs.declared.types.Funding.{Funding}
+use Rattle.credit.specs.Credit.{suspended}
+use Rattle.credit.specs.Weights.{owes}
+use Rattle.book.specs.declared.types.Book.{Book}
+use Rattle.book.specs.Books.{sound, held, owed, totals, suspendedShown, noRecords, empty}
+use Rattle.book.specs.Step.{deedOf, done}
+use Rattle.book.proofs.Kept.{sound-places}
+use Rattle.demands.specs.Runs.{nextBook, replied}
+use Rattle.demands.specs.Two.{supportSet, holds, Acceptance, DemandTwo}
+use Rattle.demands.proofs.Accepted.{taken}
+use Rattle.demands.proofs.Soundness.{empty-sound}
+use Rattle.demands.proofs.Requirements.{sets, others-kept, support-sets, answers}
+
+-- ---- an acceptance
+
+module _ (b : Book) (ms : List ℕ) (ps : List ℤ) where
+  -- the support is set by what is asked for
+  funded : (m : Message) → totals (done b (deedOf b m ms ps)) .support ≡ supportSet (totals b .support) m
+  unfolding deedOf done totals
+  funded (Open o) = refl
+  funded (Revise o) = refl
+  funded (Withdraw k) = refl
+  funded (Post p) = refl
+  funded (Finish f) = refl
+  funded (Bill x) = refl
+  funded (Pay k) = refl
+  funded (Support s) = refl
+
+  placed : (m : Message) → replied b m ms ps .number ≡ 0 → (s : Funding) → m ≡ Support s → nextBook b m ms ps .records ≡ b .records
+  unfolding done
+  placed m ok s e =
+      subst (λ (x : Message). replied b x ms ps .number ≡ 0 → nextBook b x ms ps .records ≡ b .records) (sym e)
+      (λ k. ap (λ (x : Book). x .records) (support-sets b ms ps s k)) ok
+
+  acceptance : (m : Message) → replied b m ms ps .number ≡ 0 → Acceptance b m ms ps
+  acceptance m ok =
+      let k = taken b m ms ps ok in
+      record {
+        sets = sets b ms ps m ok;
+        others = others-kept b m ms ps ok;
+        support = ap (λ (x : Book). totals x .support) (k .next) ∙ funded m;
+        places = placed m ok;
+        requirement = answers b ms ps m ok;
+        held = k .held;
+        owed = k .owed;
+      }
+
+-- ---- held, over the open transactions
+
+nothing : (r : Record) → okPlace r ≡ true → r .requirement ≡ holds r
+nothing r h = tested (isFree r) (λ e. rw e (ap (λ (x : Record). x .requirement) (place-free r h e))) (λ e. rw e)
+
+open-total : (rs : List Record) → every okPlace rs ≡ true → total (λ r. r .requirement) rs ≡ total holds rs
+unfolding sum every
+open-total [] h = refl
+open-total (r ∷ rs) h = ap₂ _+ℤ_ (nothing r (and-left (okPlace r) (every okPlace rs) h)) (open-total rs (and-right (okPlace r) (every okPlace rs) h))
+
+held-open : (b : Book) → sound b ≡ true → held b ≡ total holds (b .records)
+unfolding held
+held-open b h = open-total (b .records) (sound-places b h)
+
+-- ---- suspension
+
+at-least : (a c : ℤ) → (leZ a c ≡ true) ↔ (a ≤ℤ c)
+at-least a c = (λ e. leZ-yes (subst T (sym e) tt), λ h. tested (leZ a c) (λ e. e) (λ e. absurd (subst T e (h .le))))
+
+suspends : (b : Book) → (suspended (totals b) ≡ true) ↔ (totals b .support ≤ℤ (pos 2 *ℤ owed b))
+unfolding suspended totals
+suspends b = at-least (totals b .support) (pos 2 *ℤ owed b)
+
+shows : (b : Book) → sound b ≡ true → suspendedShown b ≡ suspended (totals b)
+unfolding suspendedShown
+shows b h = rw h
+
+empty-owes : totals (empty (pos 0)) .support ≤ℤ (pos 2 *ℤ owed (empty (pos 0)))
+unfolding totals owed owes noRecords sum
+empty-owes = leZ-yes tt
+
+empty-suspended : suspendedShown (empty (pos 0)) ≡ true
+empty-suspended = shows (empty (pos 0)) (empty-sound (pos 0) refl) ∙ suspends (empty (pos 0)) .1 empty-owes
+
+pub demand-two : (b : Book) (m : Message) (mwhs : List ℕ) (prices : List ℤ) → DemandTwo b m mwhs prices
+demand-two b m ms ps =
+    record {
+      accepted = acceptance b ms ps m;
+      summed = held-open b;
+      suspension = suspends b;
+      shown = shows b;
+      emptied = empty-suspended;
+    }

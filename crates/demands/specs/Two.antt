@@ -1,0 +1,103 @@
+-- Demand 2: 'Every requirement that a message sets, from bid to posted schedule, finished hour and bill, equals 01's formulas.
+-- Credit held is the sum over open transactions. Suspension stands exactly when the net billed amount reaches half the support.'
+-- The theorem is demand-two, proofs/Two.antt.
+-- Assumes nothing.
+use mathlib.Core.Path.{_≡_}
+use mathlib.Core.Bool.{true, false, cond}
+use mathlib.Core.List.{List}
+use mathlib.Core.Logic.{_↔_}
+use Prim.Native.Nat.{ℕ}
+use lib.IntN.{ℤ, pos, _*ℤ_}
+use lib.Signed.{_≤ℤ_}
+use Rattle.amounts.specs.Lists.{total}
+use Rattle.bids.specs.declared.types.Bid.{Bid}
+use Rattle.bids.specs.Points.{curve}
+use Rattle.bids.specs.Bids.{bidMwh, bidRequirement}
+use Rattle.formulas.specs.Stages.{postedRequirement, finishedRequirement}
+use Rattle.records.specs.declared.types.Key.{Key}
+use Rattle.records.specs.declared.types.Record.{Record}
+use Rattle.records.specs.Records.{blank, isFree, sameKey}
+use Rattle.messages.specs.declared.types.Message.{Message}
+use Rattle.messages.specs.declared.types.Message.the-variants.{Open, Revise, Withdraw, Post, Finish, Bill, Pay, Support}
+use Rattle.messages.specs.declared.types.Opening.{Opening}
+use Rattle.messages.specs.declared.types.Funding.{Funding}
+use Rattle.messages.specs.Plan.{keyOf, opened, posted, moved}
+use Rattle.credit.specs.Credit.{suspended}
+use Rattle.endings.specs.Answers.{Reply}
+use Rattle.book.specs.declared.types.Book.{Book}
+use Rattle.book.specs.Books.{lookup, sound, held, owed, totals, suspendedShown, empty}
+use Rattle.demands.specs.Runs.{nextBook, replied}
+
+-- ---- what an accepted message sets, by 01; `old` is the record under its key, blank where the key is not open
+
+-- 'Bid': bid MWh and requirement of a group
+abbrev pub bidSet : Opening → List ℕ → List ℤ → Bid
+bidSet o mwhs prices =
+    record { mwh = bidMwh (o .key .kind) (curve mwhs prices); cents = bidRequirement (o .key .kind) (curve mwhs prices) (o .differential) (o .exempt) }
+
+-- the record under its key, with its stage and requirement; blank where none stands
+abbrev pub recordSet : Record → Message → List ℕ → List ℤ → Record
+-- 'Open makes stage 1'; revise is 'the same, replacing the group'
+recordSet old (Open o) mwhs prices = opened o (bidSet o mwhs prices)
+recordSet old (Revise o) mwhs prices = opened o (bidSet o mwhs prices)
+-- 'Post goes from 1 to 2'
+recordSet old (Post p) mwhs prices =
+    posted old p (postedRequirement (old .key .kind) (old .differential) (old .exempt) (p .schedule) (p .price) (p .second))
+-- 'Finish goes from 2 to 3, for kind 3 from 1 to 3'
+recordSet old (Finish f) mwhs prices =
+    moved old 3 (finishedRequirement (old .key .kind) (old .exempt) (old .schedule) (old .price) (old .requirement) (f .actual) (f .price) (f .second))
+-- 'Bill goes from 3 to 4'; 'Billed, every kind: the bill, signed'
+recordSet old (Bill x) mwhs prices = moved old 4 (x .cents)
+-- 'Pay needs 4 and frees the place; withdraw frees it too'
+recordSet old (Pay k) mwhs prices = blank
+recordSet old (Withdraw k) mwhs prices = blank
+-- a support change names no transaction
+recordSet old (Support s) mwhs prices = blank
+
+-- the support: 'support (amount)' sets it, and no other message does
+abbrev pub supportSet : ℤ → Message → ℤ
+supportSet was (Open o) = was
+supportSet was (Revise o) = was
+supportSet was (Withdraw k) = was
+supportSet was (Post p) = was
+supportSet was (Finish f) = was
+supportSet was (Bill x) = was
+supportSet was (Pay k) = was
+supportSet was (Support s) = s .cents
+
+-- what an open transaction holds; a free place holds nothing
+abbrev pub holds : Record → ℤ
+holds r = cond (isFree r) (pos 0) (r .requirement)
+
+-- ---- the demand
+
+module _ (b : Book) (m : Message) (mwhs : List ℕ) (prices : List ℤ) where
+  abbrev next : Book
+  next = nextBook b m mwhs prices
+
+  abbrev answer : Reply
+  answer = replied b m mwhs prices
+
+  pub record Acceptance : Type 0 where
+    -- 'Every requirement that a message sets .. equals 01's formulas'
+    pub sets : lookup next (keyOf m) ≡ recordSet (lookup b (keyOf m)) m mwhs prices
+    -- and every other key's record is as it was
+    pub others : (k : Key) → sameKey (keyOf m) k ≡ false → lookup next k ≡ lookup b k
+    -- a support change sets the support and nothing else
+    pub support : totals next .support ≡ supportSet (totals b .support) m
+    pub places : (s : Funding) → m ≡ Support s → next .records ≡ b .records
+    -- 01: 'Acceptance answers the key's requirement (0 after withdraw, pay and support), held and net owed of the next book'
+    pub requirement : answer .requirement ≡ lookup next (keyOf m) .requirement
+    pub held : answer .held ≡ held next
+    pub owed : answer .owed ≡ owed next
+
+  pub record DemandTwo : Type 0 where
+    pub accepted : answer .number ≡ 0 → Acceptance
+    -- 'Credit held is the sum over open transactions'
+    pub summed : sound b ≡ true → held b ≡ total holds (b .records)
+    -- 'Suspension stands exactly when the net billed amount reaches half the support'; 01: '2 x net owed is at least the support'
+    pub suspension : (suspended (totals b) ≡ true) ↔ (totals b .support ≤ℤ (pos 2 *ℤ owed b))
+    -- which is what a sound book shows
+    pub shown : sound b ≡ true → suspendedShown b ≡ suspended (totals b)
+    -- 01: 'An empty book of support 0 is suspended'
+    pub emptied : suspendedShown (empty (pos 0)) ≡ true
