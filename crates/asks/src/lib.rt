@@ -16,6 +16,8 @@ use draws::values;
 use draws::values::either;
 use draws::values::one_of;
 use draws::values::one_of_cents;
+use kinds::Kind;
+use kinds::Stage;
 use messages::types::Billing;
 use messages::types::Finishing;
 use messages::types::Funding;
@@ -51,7 +53,7 @@ fn onward(r: Record) -> u64 {
     let stage = r.stage;
     match stage {
         0 => OPEN,
-        1 => pick(r.key.kind == Key::HOUR_AHEAD_EXPORT, FINISH, POST),
+        1 => pick(r.key.kind == Kind::HOUR_AHEAD_EXPORT, FINISH, POST),
         2 => FINISH,
         3 => BILL,
         _ => PAY,
@@ -62,7 +64,7 @@ fn message_of(w: u64, now: Standing, r: Record) -> u64 {
     let any = w / 2 % 8 + 1;
     let empties = now.season == 2;
     let many = empties & (3 <= now.open);
-    let leaves = empties & (r.stage == Record::BID);
+    let leaves = empties & (r.stage == Stage::BID);
     let led = pick(
         many & (r.stage == 0),
         SUPPORT,
@@ -95,7 +97,7 @@ fn differential_of(seed: u64, kind: u64) -> u64 {
     let w = draw(seed, generator::DIFFERENTIAL);
     let in_range = one_of(values::DIFFERENTIALS, w);
     let out = one_of(values::DIFFERENTIALS_OUT, w);
-    let has_one = kind <= Key::EXPORT;
+    let has_one = kind <= Kind::EXPORT;
     pick(
         has(seed, 8),
         pick(has_one, out, 1),
@@ -122,7 +124,7 @@ fn quantity_of(seed: u64, r: Record) -> u64 {
 fn price_of(seed: u64, kind: u64) -> i64 {
     let w = draw(seed, generator::PRICE);
     let which = draw(seed, generator::SECOND_PRICE) % 3;
-    let out = has(seed, 7) & ((which == 0) | ((which == 2) & (kind == Key::WHEEL)));
+    let out = has(seed, 7) & ((which == 0) | ((which == 2) & (kind == Kind::WHEEL)));
     either(
         out,
         one_of_cents(values::PRICES_OUT, w),
@@ -134,7 +136,11 @@ fn second_of(seed: u64, kind: u64) -> i64 {
     let w = draw(seed, generator::SECOND_PRICE);
     let fault = has(seed, 7);
     let one = either(fault & (w % 3 == 2), 1, 0);
-    let in_range = either(kind == Key::WHEEL, values::price_or(values::PRICES, w), one);
+    let in_range = either(
+        kind == Kind::WHEEL,
+        values::price_or(values::PRICES, w),
+        one,
+    );
     either(
         fault & (w % 3 == 1),
         one_of_cents(values::PRICES_OUT, w),

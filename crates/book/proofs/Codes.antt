@@ -7,15 +7,15 @@ use mathlib.Core.Option.{some}
 use mathlib.Core.Logic.{_⊎_, inl, inr, ⊎-elim}
 use Prim.Native.Nat.{ℕ, _+_, _*_, _≤_}
 use native.Mathlib.Omega.{arith}
-use lib.Dec.{leb, eqb}
-use borrow.Author.Tests.{eqb-true, eqb-false, ne-eqb, leb-true}
-use Rattle.amounts.specs.Limits.{between, isSupport}
+use lib.Dec.{eqb}
+use borrow.Author.Tests.{eqb-true, eqb-false, ne-eqb}
+use Rattle.amounts.specs.Limits.{isSupport}
 use Rattle.amounts.specs.Lists.{every}
 use Rattle.refusals.proofs.Laws.{and-left, and-right, never}
 use Rattle.records.specs.declared.types.Key.{Key}
 use Rattle.records.specs.declared.types.Record.{Record}
-use Rattle.records.specs.Records.{blank, isFree, sameKey, at, isPath, isHour, keyFits, okPlace}
-use Rattle.records.proofs.Keys.{sameKey-eq, sameKey-refl, free-blank, at-blank, place-free, place-used}
+use Rattle.records.specs.Records.{blank, isFree, sameKey, at, keyFits, okPlace}
+use Rattle.records.proofs.Keys.{key-bounds, sameKey-eq, sameKey-refl, free-blank, at-blank, place-free, place-used}
 use Rattle.records.proofs.Clauses.{clauses}
 use Rattle.distinct.specs.Numbers.{standsIn, allDistinct}
 use Rattle.book.specs.Places.{find, missing}
@@ -38,19 +38,13 @@ pub record Ranges (r : Record) : Type 0 where
 ranges : (r : Record) → isFree r ≡ false → keyFits (r .key) ≡ true → Ranges r
 unfolding codeOf
 ranges r used h =
-    let k = r .key in
-    let kp = and-left (between 1 4 (k .kind) && isPath (k .path)) (isHour (k .hour)) h in
-    let kind = and-left (between 1 4 (k .kind)) (isPath (k .path)) kp in
-    let path = and-right (between 1 4 (k .kind)) (isPath (k .path)) kp in
-    let kind-high : k .kind ≤ 4 = leb-true (k .kind) 4 (and-right (leb 1 (k .kind)) (leb (k .kind) 4) kind) in
-    let path-high : k .path ≤ 999 = leb-true (k .path) 999 (and-right (leb 1 (k .path)) (leb (k .path) 999) path) in
-    let hour-high : k .hour ≤ 999999 = leb-true (k .hour) 999999 (and-right (between 1 4 (k .kind) && isPath (k .path)) (isHour (k .hour)) h) in
+    let b = key-bounds (r .key) h in
     record {
       used = used;
-      kind-low = leb-true 1 (k .kind) (and-left (leb 1 (k .kind)) (leb (k .kind) 4) kind);
-      kind-high = kind-high;
-      path-high = path-high;
-      hour-high = hour-high;
+      kind-low = b .kind-low;
+      kind-high = b .kind-high;
+      path-high = b .path-high;
+      hour-high = b .hour-high;
       code = rw used (omega arith);
     }
 

@@ -8,16 +8,16 @@ use lib.IntN.{ℤ, pos, negsuc}
 use Rattle.amounts.specs.Lists.{sum, every}
 use Rattle.refusals.specs.Refusals.{first, answered, judge}
 use Rattle.refusals.proofs.Laws.{never}
-use Rattle.kinds.specs.Kinds.{unlessExempt, byKind}
+use Rattle.kinds.specs.Kinds.{unlessExempt, byKind, rulesOf}
 use Rattle.bids.specs.Rows.{pointRows, bidRows}
 use Rattle.bids.specs.Bids.{importBid, exportBid, hourAheadBid, bidMwh, bidRequirement}
 use Rattle.bids.specs.Entries.{bidVerdict}
 use Rattle.bids.specs.Points.{largestMwh, totalMwh, mwhAt, tried, exposure, wheelExposure}
-use Rattle.deliveries.specs.Rows.{deliveryRows, postedRows, finishedRows, billRows}
+use Rattle.formulas.specs.Rows.{deliveryRows, postedRows, finishedRows, billRows}
 use Rattle.formulas.specs.Stages.{importPosted, balancing, importFinished, exportPosted, exportFinished, hourAheadFinished, wheelPosted, wheelFinished, postedRequirement, finishedRequirement}
 use Rattle.formulas.specs.Entries.{postedVerdict, finishedVerdict}
 use Rattle.records.specs.declared.types.Key.{Key}
-use Rattle.records.specs.Records.{isBlank, isFree, sameKey, at, okRecord, okPlace, keyRows}
+use Rattle.records.specs.Records.{isBlank, isFree, sameKey, at, keeps, okRecord, okPlace, keyRows}
 use Rattle.messages.specs.declared.types.Message.{Message}
 use Rattle.messages.specs.declared.types.Message.the-variants.{Open, Post, Finish, Bill, Pay, Support}
 use Rattle.messages.specs.Plan.{bidFor, postedFor, finishedFor, stageRows}
@@ -113,7 +113,7 @@ record Seen : Type 0 where
   whole-owed : owed (wholeBook support run) ≡ pos 25000
 
 seen : Seen
-unfolding Accepted requirements Fair Follows owner whole part after fresh step verdict outcome done change deedOf table judge answered first lookup find swap missing orElseBlank sound every distinct okPlace okRecord isBlank isFree sameKey at noRecords totals held owed owes full suspended sum bidFor postedFor finishedFor keyRows stageRows pointRows deliveryRows bidRows postedRows finishedRows billRows bidVerdict postedVerdict finishedVerdict bidMwh bidRequirement postedRequirement finishedRequirement byKind importBid importPosted balancing importFinished unlessExempt exportBid hourAheadBid exportPosted exportFinished hourAheadFinished wheelPosted wheelFinished largestMwh totalMwh mwhAt tried exposure wheelExposure
+unfolding Accepted requirements Fair Follows owner whole part after fresh step verdict outcome done change deedOf table judge answered first lookup find swap missing orElseBlank sound every distinct okPlace okRecord keeps isBlank isFree sameKey at noRecords totals held owed owes full suspended sum bidFor postedFor finishedFor keyRows stageRows pointRows deliveryRows bidRows postedRows finishedRows billRows bidVerdict postedVerdict finishedVerdict bidMwh bidRequirement postedRequirement finishedRequirement byKind rulesOf importBid importPosted balancing importFinished unlessExempt exportBid hourAheadBid exportPosted exportFinished hourAheadFinished wheelPosted wheelFinished largestMwh totalMwh mwhAt tried exposure wheelExposure
 seen =
     record {
       accepted = (refl, (refl, (refl, (refl, (refl, (refl, (refl, (refl, (refl, (refl, (refl, (refl, (refl, tt)))))))))))));

@@ -8,6 +8,7 @@ use Prim.Native.Nat.{ℕ}
 use lib.IntN.{ℤ}
 use Rattle.refusals.specs.Refusals.{None}
 use Rattle.refusals.proofs.Laws.{never}
+use Rattle.kinds.specs.Kinds.{finishedStage}
 use Rattle.records.specs.declared.types.Key.{Key}
 use Rattle.records.specs.declared.types.Record.{Record}
 use Rattle.records.specs.Records.{blank, sameKey, keyFits}
@@ -19,7 +20,7 @@ use Rattle.messages.specs.declared.types.Change.{Change}
 use Rattle.messages.specs.declared.types.Change.the-variants.{Add, Rebid, Advance, Remove}
 use Rattle.messages.specs.declared.types.Deed.{Deed}
 use Rattle.messages.specs.declared.types.Deed.the-variants.{Keyed, SetSupport}
-use Rattle.messages.specs.Plan.{keyOf, opened, posted, moved}
+use Rattle.messages.specs.Plan.{keyOf, openedRecord, postedRecord, laterRecord}
 use Rattle.messages.proofs.Fits.{Fits}
 use Rattle.messages.proofs.Formulas.{bid-is, revised-is, posted-is, finished-is}
 use Rattle.credit.specs.Credit.{creditRows, answeredBy}
@@ -89,17 +90,17 @@ module _ (b : Book) (ms : List ℕ) (ps : List ℤ) where
   pub sets : (m : Message) → replied b m ms ps .number ≡ 0 → lookup (nextBook b m ms ps) (keyOf m) ≡ recordSet (lookup b (keyOf m)) m ms ps
   unfolding deedOf orElseBlank
   sets (Open o) ok =
-      here b (Open o) ms ps ok _ refl ∙ ap (opened o) (bid-is (lookup b (o .key)) o ms ps (taken b (Open o) ms ps ok .planned))
+      here b (Open o) ms ps ok _ refl ∙ ap (openedRecord o) (bid-is (lookup b (o .key)) o ms ps (taken b (Open o) ms ps ok .planned))
   sets (Revise o) ok =
       let k = taken b (Revise o) ms ps ok in
-      here b (Revise o) ms ps ok _ refl ∙ ap (opened o) (revised-is (lookup b (o .key)) o ms ps (lookup-under b (o .key) (k .sane)) (k .planned))
+      here b (Revise o) ms ps ok _ refl ∙ ap (openedRecord o) (revised-is (lookup b (o .key)) o ms ps (lookup-under b (o .key) (k .sane)) (k .planned))
   sets (Withdraw k) ok = here b (Withdraw k) ms ps ok _ refl
   sets (Post p) ok =
       let k = taken b (Post p) ms ps ok in
-      here b (Post p) ms ps ok _ refl ∙ ap (posted (lookup b (p .key)) p) (posted-is (lookup b (p .key)) p ms ps (lookup-under b (p .key) (k .sane)) (k .planned))
+      here b (Post p) ms ps ok _ refl ∙ ap (postedRecord (lookup b (p .key)) p) (posted-is (lookup b (p .key)) p ms ps (lookup-under b (p .key) (k .sane)) (k .planned))
   sets (Finish f) ok =
       let k = taken b (Finish f) ms ps ok in
-      here b (Finish f) ms ps ok _ refl ∙ ap (moved (lookup b (f .key)) 3) (finished-is (lookup b (f .key)) f ms ps (lookup-under b (f .key) (k .sane)) (k .planned))
+      here b (Finish f) ms ps ok _ refl ∙ ap (laterRecord (lookup b (f .key)) finishedStage) (finished-is (lookup b (f .key)) f ms ps (lookup-under b (f .key) (k .sane)) (k .planned))
   sets (Bill x) ok = here b (Bill x) ms ps ok _ refl
   sets (Pay k) ok = here b (Pay k) ms ps ok _ refl
   sets (Support s) ok = unnamed (nextBook b (Support s) ms ps) (sound-kept b (Support s) ms ps (taken b (Support s) ms ps ok .sane))

@@ -10,6 +10,7 @@ use Prim.Native.Nat.{ℕ}
 use lib.IntN.{ℤ, pos, _*ℤ_}
 use lib.Signed.{_≤ℤ_}
 use Rattle.amounts.specs.Lists.{total}
+use Rattle.kinds.specs.Kinds.{finishedStage, billedStage}
 use Rattle.bids.specs.declared.types.Bid.{Bid}
 use Rattle.bids.specs.Points.{curve}
 use Rattle.bids.specs.Bids.{bidMwh, bidRequirement}
@@ -21,7 +22,7 @@ use Rattle.messages.specs.declared.types.Message.{Message}
 use Rattle.messages.specs.declared.types.Message.the-variants.{Open, Revise, Withdraw, Post, Finish, Bill, Pay, Support}
 use Rattle.messages.specs.declared.types.Opening.{Opening}
 use Rattle.messages.specs.declared.types.Funding.{Funding}
-use Rattle.messages.specs.Plan.{keyOf, opened, posted, moved}
+use Rattle.messages.specs.Plan.{keyOf, openedRecord, postedRecord, laterRecord}
 use Rattle.credit.specs.Credit.{suspended}
 use Rattle.endings.specs.Answers.{Reply}
 use Rattle.book.specs.declared.types.Book.{Book}
@@ -38,16 +39,16 @@ bidSet o mwhs prices =
 -- the record under its key, with its stage and requirement; blank where none stands
 abbrev pub recordSet : Record → Message → List ℕ → List ℤ → Record
 -- 'Open makes stage 1'; revise is 'the same, replacing the group'
-recordSet old (Open o) mwhs prices = opened o (bidSet o mwhs prices)
-recordSet old (Revise o) mwhs prices = opened o (bidSet o mwhs prices)
+recordSet old (Open o) mwhs prices = openedRecord o (bidSet o mwhs prices)
+recordSet old (Revise o) mwhs prices = openedRecord o (bidSet o mwhs prices)
 -- 'Post goes from 1 to 2'
 recordSet old (Post p) mwhs prices =
-    posted old p (postedRequirement (old .key .kind) (old .differential) (old .exempt) (p .schedule) (p .price) (p .second))
+    postedRecord old p (postedRequirement (old .key .kind) (old .differential) (old .exempt) (p .schedule) (p .price) (p .second))
 -- 'Finish goes from 2 to 3, for kind 3 from 1 to 3'
 recordSet old (Finish f) mwhs prices =
-    moved old 3 (finishedRequirement (old .key .kind) (old .exempt) (old .schedule) (old .price) (old .requirement) (f .actual) (f .price) (f .second))
+    laterRecord old finishedStage (finishedRequirement (old .key .kind) (old .exempt) (old .schedule) (old .price) (old .requirement) (f .actual) (f .price) (f .second))
 -- 'Bill goes from 3 to 4'; 'Billed, every kind: the bill, signed'
-recordSet old (Bill x) mwhs prices = moved old 4 (x .cents)
+recordSet old (Bill x) mwhs prices = laterRecord old billedStage (x .cents)
 -- 'Pay needs 4 and frees the place; withdraw frees it too'
 recordSet old (Pay k) mwhs prices = blank
 recordSet old (Withdraw k) mwhs prices = blank
