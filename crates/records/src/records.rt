@@ -1,9 +1,9 @@
-// Tests of one key and one record: straight-line expressions, clause by clause as document 01 lists them.
+// One key and one record: how a record is made, and the tests, straight-line expressions, clause by clause as document 01 lists them.
 ghost use mathlib.Core.Path.{_≡_};
 ghost use Rattle.refusals.specs.Refusals.{first};
 ghost use Rattle.kinds.specs.Kinds.{isKind, isPath, rulesOf};
-ghost use Rattle.records.specs.Records.{blank, bidRecord, advanced, isBlank, isFree, sameKey, at, isHour, keyFits, scheduleFits, dayAheadFits, exemptFits, requirementFits, keeps, okRecord, okPlace};
-ghost use Rattle.records.specs.Records.{keyRows};
+ghost use Rattle.records.specs.Records.{blank, bidRecord, advanced, isBlank, isFree, sameKey, at, isHour, keyFits, keyRows};
+ghost use Rattle.records.specs.Records.{scheduleFits, dayAheadFits, exemptFits, requirementFits, keeps, okRecord, okPlace};
 use crate::types::Key;
 use crate::types::Record;
 use amounts::Amount;
