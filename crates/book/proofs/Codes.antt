@@ -122,9 +122,9 @@ and-middle false b c e = refl
 
 -- a book is sound by the test of its places, that of its support, and that of its keys' numbers, which are looked at whatever the places hold
 pub sound-by : (b : Book) (ranged : Bool) (codes : List ℕ) → ranged ≡ every okPlace (b .records) → codes ≡ map codeOf (b .records)
-    → (ranged && isSupport (b .support) && allDistinct codes) ≡ sound b
+    → (ranged && isSupport (b .account .support) && allDistinct codes) ≡ sound b
 unfolding sound
 sound-by b true codes e f =
-    ap (λ (x : Bool). isSupport (b .support) && x) (ap allDistinct f ∙ sym (distinct-numbers (b .records) (sym e)))
-    ∙ sym (and-middle (isSupport (b .support)) (every okPlace (b .records)) (distinct (b .records)) (sym e))
-sound-by b false codes e f = sym (and-none (isSupport (b .support)) (every okPlace (b .records)) (distinct (b .records)) (sym e))
+    ap (λ (x : Bool). isSupport (b .account .support) && x) (ap allDistinct f ∙ sym (distinct-numbers (b .records) (sym e)))
+    ∙ sym (and-middle (isSupport (b .account .support)) (every okPlace (b .records)) (distinct (b .records)) (sym e))
+sound-by b false codes e f = sym (and-none (isSupport (b .account .support)) (every okPlace (b .records)) (distinct (b .records)) (sym e))

@@ -6,7 +6,7 @@ use mathlib.Core.List.{List, [], _∷_}
 use mathlib.Core.Option.{Option, none, some}
 use Prim.Native.Nat.{_+_, _≤_, zero-le}
 use native.Mathlib.Omega.{arith}
-use Rattle.amounts.specs.Lists.{sum, count, bit}
+use Rattle.amounts.specs.Lists.{sum}
 use Rattle.refusals.proofs.Laws.{and-left, and-right, and-both, never}
 use Rattle.records.specs.declared.types.Key.{Key}
 use Rattle.records.specs.declared.types.Record.{Record}
@@ -14,7 +14,7 @@ use Rattle.records.specs.Records.{isFree, at}
 use Rattle.records.proofs.Keys.{at-key, at-used, at-own}
 use Rattle.book.specs.Places.{find, missing}
 use Rattle.book.specs.Books.{distinct}
-use Rattle.book.proofs.Places.{find-count, count-find}
+use Rattle.book.proofs.Places.{count, bit, find-count, count-find}
 
 pub missing-none : {A : Type 0} (o : Option A) → missing o ≡ true → o ≡ none
 unfolding missing

@@ -8,7 +8,7 @@ use Prim.Native.Nat.{ℕ, _+_, _≤_}
 use native.Mathlib.Omega.{arith}
 use lib.IntN.{ℤ, pos, _+ℤ_}
 use lib.ListN.{length}
-use Rattle.amounts.specs.Lists.{total, count, bit, every}
+use Rattle.amounts.specs.Lists.{total, every}
 use Rattle.refusals.proofs.Laws.{never}
 use Rattle.records.specs.declared.types.Key.{Key}
 use Rattle.records.specs.declared.types.Record.{Record}
@@ -17,7 +17,7 @@ use Rattle.records.proofs.Keys.{at-blank, at-key, at-used, at-own, free-at, at-
 use Rattle.messages.proofs.Fits.{Fine}
 use Rattle.book.specs.Places.{find, swap, missing}
 use Rattle.book.specs.Books.{distinct}
-use Rattle.book.proofs.Places.{find-passes, find-count, count-find, find-other, find-new, find-same, swap-total, swap-count, swap-length, every-swap, every-find}
+use Rattle.book.proofs.Places.{count, bit, find-passes, find-count, count-find, find-other, find-new, find-same, swap-total, swap-count, swap-length, every-swap, every-find}
 use Rattle.book.proofs.Distinct.{distinct-count, count-distinct}
 
 abbrev pub weight : (Record → ℤ) → Option Record → ℤ

@@ -5,7 +5,6 @@ use mathlib.Core.Bool.{true, false, _&&_}
 use mathlib.Core.List.{List}
 use mathlib.Core.Logic.{inl, inr}
 use mathlib.Core.Option.{Option, none, some}
-use lib.IntN.{ℤ}
 use Rattle.amounts.specs.Limits.{isSupport}
 use Rattle.amounts.specs.Lists.{every}
 use Rattle.refusals.specs.Refusals.{None}
@@ -21,6 +20,8 @@ use Rattle.records.specs.Records.{blank, isFree, at, okPlace}
 use Rattle.messages.specs.Plan.{keyOf}
 use Rattle.records.proofs.Keys.{at-key, at-used, free-blank, place-used}
 use Rattle.messages.proofs.Fits.{Under, Fits}
+use Rattle.credit.specs.declared.types.Account.{Account}
+use Rattle.credit.specs.Account.{supported}
 use Rattle.credit.specs.Credit.{creditRows}
 use Rattle.book.specs.Places.{find, swap, missing, orElseBlank}
 use Rattle.book.specs.Books.{Book, lookup, sound, distinct, full, totals}
@@ -30,21 +31,21 @@ use Rattle.book.proofs.Effect.{Effect, effect-add, effect-put, effect-d
 
 -- ---- the parts of soundness
 module _ (b : Book) (h : sound b ≡ true) where
-  pub sound-support : isSupport (b .support) ≡ true
+  pub sound-support : isSupport (b .account .support) ≡ true
   unfolding sound
-  sound-support = and-left (isSupport (b .support)) (every okPlace (b .records)) (and-left (isSupport (b .support) && every okPlace (b .records)) (distinct (b .records)) h)
+  sound-support = and-left (isSupport (b .account .support)) (every okPlace (b .records)) (and-left (isSupport (b .account .support) && every okPlace (b .records)) (distinct (b .records)) h)
 
   pub sound-places : every okPlace (b .records) ≡ true
   unfolding sound
-  sound-places = and-right (isSupport (b .support)) (every okPlace (b .records)) (and-left (isSupport (b .support) && every okPlace (b .records)) (distinct (b .records)) h)
+  sound-places = and-right (isSupport (b .account .support)) (every okPlace (b .records)) (and-left (isSupport (b .account .support) && every okPlace (b .records)) (distinct (b .records)) h)
 
   pub sound-distinct : distinct (b .records) ≡ true
   unfolding sound
-  sound-distinct = and-right (isSupport (b .support) && every okPlace (b .records)) (distinct (b .records)) h
+  sound-distinct = and-right (isSupport (b .account .support) && every okPlace (b .records)) (distinct (b .records)) h
 
-pub sound-make : (b : Book) (z : ℤ) (rs : List Record) → isSupport z ≡ true → every okPlace rs ≡ true → distinct rs ≡ true → sound (rebook b z rs) ≡ true
+pub sound-make : (b : Book) (a : Account) (rs : List Record) → isSupport (a .support) ≡ true → every okPlace rs ≡ true → distinct rs ≡ true → sound (rebook b a rs) ≡ true
 unfolding sound
-sound-make b z rs s p d = and-both (isSupport z && every okPlace rs) (distinct rs) (and-both (isSupport z) (every okPlace rs) s p) d
+sound-make b a rs s p d = and-both (isSupport (a .support) && every okPlace rs) (distinct rs) (and-both (isSupport (a .support)) (every okPlace rs) s p) d
 
 -- ---- what stands under a key
 under-by : (k : Key) (rs : List Record) → every okPlace rs ≡ true → (o : Option Record) → find (at k) rs ≡ o → Under k (orElseBlank blank o)
@@ -111,5 +112,5 @@ pub done-sound : (b : Book) (m : Message) (d : Deed) → sound b ≡ true → Fi
 unfolding done
 done-sound b m (Keyed c) h f w =
     let e = effect b m c h f w in
-    sound-make b (b .support) (change c (b .records)) (sound-support b h) (e .fine) (e .apart)
-done-sound b m (SetSupport z) h f w = sound-make b z (b .records) f (sound-places b h) (sound-distinct b h)
+    sound-make b (b .account) (change c (b .records)) (sound-support b h) (e .fine) (e .apart)
+done-sound b m (SetSupport z) h f w = sound-make b (supported (b .account) z) (b .records) f (sound-places b h) (sound-distinct b h)

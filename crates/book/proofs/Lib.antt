@@ -5,7 +5,7 @@ mod Codes
 mod Walked
 mod Distinct
 pub mod Effect
-mod Verdicts
+pub mod Verdicts
 pub mod Kept
 pub mod Written
 mod Shown

@@ -15,7 +15,12 @@ use mathlib.Core.Logic.{⊎-elim}
 use native.Mathlib.Nat.{eq-or-lt-of-le}
 use Rattle.amounts.specs.Lists.{every}
 use Rattle.amounts.proofs.Walks.{drop-back}
-use Rattle.book.specs.Places.{find, swap, missing, orElseBlank, index}
+use Rattle.book.specs.Places.{find, swap, missing, orElseBlank}
+
+-- how many places stand before the first that passes; all of them where none does
+unfoldable pub index : {A : Type 0} → (A → Bool) → List A → ℕ
+index p [] = 0
+index p (x ∷ xs) = cond (p x) 0 (index p xs + 1)
 
 -- ---- a walk from the end
 module _ {A : Type 0} (p : A → Bool) (l : List A) (i : ℕ) (d : A) (h : 0 < i) (g : i ≤ length l) where

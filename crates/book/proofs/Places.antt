@@ -9,9 +9,17 @@ use native.Mathlib.Nat.{add-assoc, add-comm}
 use native.Mathlib.Omega.{arith}
 use lib.IntN.{ℤ, pos, _+ℤ_, +ℤ-assoc, +ℤ-comm}
 use lib.ListN.{length}
-use Rattle.amounts.specs.Lists.{sum, total, count, bit, every}
+use Rattle.amounts.specs.Lists.{sum, total, every}
 use Rattle.refusals.proofs.Laws.{and-left, and-right, and-both}
 use Rattle.book.specs.Places.{find, swap}
+
+abbrev pub bit : Bool → ℕ
+bit true = 1
+bit false = 0
+
+-- how many pass the test
+abbrev pub count : {A : Type 0} → (A → Bool) → List A → ℕ
+count p xs = sum _+_ 0 (λ x. bit (p x)) xs
 
 pub none≢some : {A : Type 0} {X : Type 0} (a : A) → none ≡ some a → X
 none≢some a e = let z : _≡_ {A = ℕ} 0 1 = cc in absurd (omega arith)

@@ -14,19 +14,20 @@ use Rattle.messages.specs.declared.types.Message.{Message}
 use Rattle.messages.specs.declared.types.Message.the-variants.{Support}
 use Rattle.messages.specs.Plan.{keyOf, plan}
 use Rattle.credit.specs.declared.types.Totals.{Totals}
-use Rattle.credit.specs.Bounds.{TotalsBounded}
-use Rattle.credit.specs.Credit.{suspended, pass}
-use Rattle.book.specs.Books.{Book, lookup, sound, held, owed, totals, heldShown, owedShown, suspendedShown}
+use Rattle.credit.specs.NoOverflow.{TotalsBounded}
+use Rattle.credit.specs.Credit.{suspended}
+use Rattle.book.specs.Books.{Book, lookup, sound, held, owed, totals, heldShown, owedShown, suspendedShown, heldAnswered, owedAnswered}
 use Rattle.endings.specs.declared.types.Answer.the-variants.{Refused}
-use Rattle.book.specs.Step.{concluded, outcome, step}
-use Rattle.book.proofs.Verdicts.{verdict-is}
+use Rattle.endings.specs.Endings.{pass}
+use Rattle.book.specs.Step.{outcome, step}
+use Rattle.book.proofs.Verdicts.{concluded, verdict-is}
 use Rattle.book.proofs.Written.{totals-small}
 
 abbrev pub question : Message
 question = Support (record { cents = negsuc 0 })
 
 module _ (b : Book) where
-  refused-as : (t : Bool) → sound b ≡ t → outcome b (cond t (pass (totals b) (refuse 9)) (refuse 1)) .answer ≡ Refused (cond t 9 1) (heldShown b) (owedShown b)
+  refused-as : (t : Bool) → sound b ≡ t → outcome b (cond t (pass (totals b) (refuse 9)) (refuse 1)) .answer ≡ Refused (cond t 9 1) (heldAnswered b) (owedAnswered b)
   unfolding outcome pass
   refused-as true h = refl
   refused-as false h = refl
@@ -35,10 +36,19 @@ module _ (b : Book) where
   unfolding plan judge first answered
   turned = refl
 
-  pub always-refused : step b question [] [] .answer ≡ Refused (cond (sound b) 9 1) (heldShown b) (owedShown b)
+  pub always-refused : step b question [] [] .answer ≡ Refused (cond (sound b) 9 1) (heldAnswered b) (owedAnswered b)
   unfolding step concluded
   always-refused =
       ap (λ (v : Verdict Deed). outcome b v .answer) (verdict-is b question [] [] ∙ ap (concluded b) turned) ∙ refused-as (sound b) refl
+
+  -- what it answers is what a screen is shown
+  pub held-shown : heldAnswered b ≡ heldShown b
+  unfolding heldAnswered heldShown
+  held-shown = refl
+
+  pub owed-shown : owedAnswered b ≡ owedShown b
+  unfolding owedAnswered owedShown
+  owed-shown = refl
 
   shown-sound : (t : Bool) → not (eqb (cond t 9 1) 1) ≡ t
   shown-sound true = refl
@@ -49,13 +59,13 @@ module _ (b : Book) where
 
   -- the totals, as they are shown
   abbrev pub shown : Totals
-  shown = record { support = b .support; held = heldShown b; owed = owedShown b; full = false }
+  shown = record { support = b .account .support; held = heldShown b; owed = owedShown b; full = false }
 
   pub suspended-shown : (eqb (cond (sound b) 9 1) 1 || suspended shown) ≡ suspendedShown b
   unfolding owedShown suspendedShown suspended totals
   suspended-shown = by (sound b) refl
     where
-      by : (t : Bool) → sound b ≡ t → (eqb (cond t 9 1) 1 || leZ (b .support) (pos 2 *ℤ cond t (owed b) (pos 0))) ≡ cond t (leZ (b .support) (pos 2 *ℤ owed b)) true
+      by : (t : Bool) → sound b ≡ t → (eqb (cond t 9 1) 1 || leZ (b .account .support) (pos 2 *ℤ cond t (owed b) (pos 0))) ≡ cond t (leZ (b .account .support) (pos 2 *ℤ owed b)) true
       by true h = refl
       by false h = refl
 
@@ -63,6 +73,6 @@ module _ (b : Book) where
   unfolding heldShown owedShown totals
   small-shown few = by (sound b) refl
     where
-      by : (t : Bool) → sound b ≡ t → TotalsBounded (record { support = b .support; held = cond t (held b) (pos 0); owed = cond t (owed b) (pos 0); full = false })
+      by : (t : Bool) → sound b ≡ t → TotalsBounded (record { support = b .account .support; held = cond t (held b) (pos 0); owed = cond t (owed b) (pos 0); full = false })
       by true h = let s = totals-small b h few in record { held = s .held; owed = s .owed }
       by false h = record { held = omega arith; owed = omega arith }

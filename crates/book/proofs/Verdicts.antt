@@ -2,21 +2,46 @@
 -- Assumes nothing.
 use mathlib.Core.Path.{_≡_, refl, sym, ap, _∙_}
 use mathlib.Core.Bool.{Bool, true, false, not, cond}
-use mathlib.Core.List.{List, _++_}
+use mathlib.Core.List.{List, _∷_, _++_}
 use Prim.Native.Nat.{ℕ}
 use native.Mathlib.Omega.{arith}
 use lib.Dec.{eqb}
 use lib.IntN.{ℤ}
 use borrow.Author.Tests.{eqb-false}
-use Rattle.refusals.specs.Refusals.{Row, first, Verdict, refuse, accept, judge, answered, orElse}
+use Rattle.refusals.specs.Refusals.{Row, row, first, Verdict, refuse, accept, judge, answered, orElse}
 use Rattle.refusals.proofs.Laws.{first-append, answered-some}
 use Rattle.messages.specs.declared.types.Message.{Message}
 use Rattle.messages.specs.declared.types.Deed.{Deed}
-use Rattle.messages.specs.Plan.{keyOf, planRows, plan}
+use Rattle.messages.specs.declared.types.Message.the-variants.{Open, Revise, Withdraw, Post, Finish, Bill, Pay, Support}
+use Rattle.bids.specs.Rows.{pointRows, bidRows}
+use Rattle.formulas.specs.Rows.{deliveryRows, billRows}
+use Rattle.records.specs.Records.{keyRows}
+use Rattle.messages.specs.Plan.{keyOf, stageRows, planRows, plan}
 use Rattle.messages.proofs.Fits.{plan-rows-numbered}
-use Rattle.credit.specs.Credit.{creditRows, creditVerdict, pass}
+use Rattle.credit.specs.Credit.{creditRows}
+use Rattle.endings.specs.Endings.{creditVerdict, pass}
 use Rattle.book.specs.Books.{Book, lookup, sound, totals}
-use Rattle.book.specs.Step.{deedOf, table, verdict, concluded}
+use Rattle.book.specs.Refusals.{table}
+use Rattle.book.specs.Step.{deedOf, verdict}
+
+-- the table by what its rows may see: 1 the book; 2 to 13 the message and the record under its key; 14 to 16 the totals
+abbrev pub parts : Book → Message → List ℕ → List ℤ → List Row
+parts b m ms ps = row 1 (not (sound b)) ∷ (planRows (lookup b (keyOf m)) m ms ps ++ creditRows (totals b) (deedOf b m ms ps))
+
+pub table-parts : (b : Book) (m : Message) (ms : List ℕ) (ps : List ℤ) → table b m ms ps ≡ parts b m ms ps
+unfolding table deedOf keyRows pointRows bidRows deliveryRows billRows stageRows
+table-parts b (Open o) ms ps = refl
+table-parts b (Revise o) ms ps = refl
+table-parts b (Withdraw k) ms ps = refl
+table-parts b (Post p) ms ps = refl
+table-parts b (Finish f) ms ps = refl
+table-parts b (Bill x) ms ps = refl
+table-parts b (Pay k) ms ps = refl
+table-parts b (Support s) ms ps = refl
+
+-- refusal 1 first; then the lower table, over the verdict of the upper
+unfoldable pub concluded : Book → Verdict Deed → Verdict Deed
+concluded b v = cond (sound b) (pass (totals b) v) (refuse 1)
 
 -- two tables, one below the other: the lower is asked only where the upper has passed
 module _ {X : Type 0} (x : X) where
@@ -41,5 +66,5 @@ module _ (b : Book) (m : Message) (ms : List ℕ) (ps : List ℤ) where
 
   -- refusals 2 to 13 see the message and the record under its key; 14 to 16 see the totals
   pub verdict-is : verdict b m ms ps ≡ concluded b (plan (lookup b (keyOf m)) m ms ps)
-  unfolding verdict judge table first concluded
-  verdict-is = verdict-by (sound b) refl
+  unfolding verdict judge first concluded
+  verdict-is = ap (λ (rs : List Row). judge rs deed) (table-parts b m ms ps) ∙ verdict-by (sound b) refl

@@ -5,31 +5,31 @@ use mathlib.Core.Bool.{Bool, true, false, _&&_, cond}
 use mathlib.Core.List.{List, [], map}
 use Prim.Native.Nat.{ℕ, _+_, _-_, _<_, _≤_}
 use native.Mathlib.Omega.{arith}
-use lib.Dec.{ltb, eqb}
-use lib.IntN.{ℤ, pos, _+ℤ_, +ℤ-comm}
+use lib.Dec.{ltb}
+use lib.IntN.{ℤ, _+ℤ_, +ℤ-comm}
 use lib.ListN.{length, drop, getD, set, length-set, length-drop, List·getD-eq-default}
 use lib.Seq.{drop-length}
 use borrow.Author.Tests.{ltb-true, ltb-false}
-use Rattle.amounts.specs.Amount.{Within}
 use Rattle.amounts.specs.Lists.{sum, total, every}
 use Rattle.refusals.proofs.Laws.{never}
 use Rattle.records.specs.declared.types.Key.{Key}
 use Rattle.records.specs.declared.types.Record.{Record}
 use Rattle.records.specs.Records.{blank, isFree, at, okPlace}
-use Rattle.credit.specs.Weights.{owes, weight}
-use Rattle.book.specs.Places.{index}
-use Rattle.book.specs.Books.{Book, lookup, held, owed, full, totals}
+use Rattle.credit.specs.declared.types.Sums.{Sums}
+use Rattle.credit.specs.Credit.{owes}
+use Rattle.credit.specs.Sums.{unbilledOf, noSums, withRecord}
+use Rattle.credit.specs.NoOverflow.{SumsWithin}
+use Rattle.book.specs.Books.{Book, lookup}
 use Rattle.walk.specs.Codes.{codeOf}
 use Rattle.walk.specs.declared.types.Walk.{Walk}
-use Rattle.walk.specs.Walk.{nothing, lost, more, SumsBounded}
-use Rattle.book.proofs.Passed.{every-back, index-back, missing-index, find-get, set-back, mapped}
-use Rattle.book.proofs.Sums.{total-bounded, total-back}
+use Rattle.walk.specs.Walk.{nothing, lost, more}
+use Rattle.book.proofs.Passed.{index, every-back, index-back, find-get, set-back, mapped}
+use Rattle.book.proofs.Sums.{sumsOf, sums-within, total-back}
 use Rattle.book.proofs.Codes.{code-blank}
 
--- of places in range: the two sums, the lowest free place and the key's
+-- of places in range: the sums, the lowest free place and the key's
 pub record Passed (key : Key) (rs : List Record) (s : Walk) (i : ℕ) : Type 0 where
-  pub held : s .held ≡ total (weight false) (drop i rs)
-  pub owed : s .owed ≡ total (weight true) (drop i rs)
+  pub sums : s .sums ≡ sumsOf (drop i rs)
   pub free : s .free ≡ i + index isFree (drop i rs)
   pub place : s .at ≡ i + index (at key) (drop i rs)
 
@@ -37,12 +37,12 @@ pub record Walked (key : Key) (rs : List Record) (codes : List ℕ) (s : Walk) (
   pub count : length codes ≡ 256
   pub within : i ≤ 256
   pub ranged : s .ranged ≡ every okPlace (drop i rs)
-  pub light : SumsBounded s
+  pub light : SumsWithin 332800000000000 (s .sums)
   pub coded : (k : ℕ) → i ≤ k → k < length codes → getD codes k 0 ≡ codeOf (getD rs k blank)
   pub passed : s .ranged ≡ true → Passed key rs s i
 
-none-light : Within 332800000000000 (pos 0)
-none-light = record { high = omega arith; low = omega arith }
+none-light : SumsWithin 332800000000000 noSums
+none-light = record { unbilled = omega arith; owed = omega arith }
 
 -- no place is passed yet
 pub begun : (key : Key) (rs : List Record) (codes : List ℕ) → length rs ≡ 256 → length codes ≡ 256 → Walked key rs codes nothing 256
@@ -53,12 +53,11 @@ begun key rs codes few count =
       count = count;
       within = omega arith;
       ranged = ap (every okPlace) none;
-      light = record { held = none-light; owed = none-light };
+      light = none-light;
       coded = λ k from to. absurd (omega arith);
       passed = λ _.
           record {
-            held = ap (total (weight false)) none;
-            owed = ap (total (weight true)) none;
+            sums = ap sumsOf none;
             free = ap (λ (l : List Record). 256 + index isFree l) none;
             place = ap (λ (l : List Record). 256 + index (at key) l) none;
           };
@@ -78,9 +77,11 @@ module _ (key : Key) (rs : List Record) (codes : List ℕ) (s : Walk) (i n : ℕ
   all-of : every okPlace (drop (i - 1) rs) ≡ (okPlace here && every okPlace (drop i rs))
   all-of = every-back okPlace rs i blank h le
 
-  sum-more : (billed : Bool) (z : ℤ) → z ≡ total (weight billed) (drop i rs) → (z +ℤ weight billed here) ≡ total (weight billed) (drop (i - 1) rs)
-  sum-more billed z e =
-      ap (λ (x : ℤ). x +ℤ weight billed here) e ∙ +ℤ-comm (total (weight billed) (drop i rs)) (weight billed here) ∙ sym (total-back (weight billed) rs i h le)
+  total-more : (f : Record → ℤ) → (total f (drop i rs) +ℤ f here) ≡ total f (drop (i - 1) rs)
+  total-more f = +ℤ-comm (total f (drop i rs)) (f here) ∙ sym (total-back f rs i h le)
+
+  sums-more : s .sums ≡ sumsOf (drop i rs) → withRecord (s .sums) here ≡ sumsOf (drop (i - 1) rs)
+  sums-more e = ap (λ (t : Sums). withRecord t here) e ∙ (λ j. record { unbilled = total-more unbilledOf j; owed = total-more owes j })
 
   few-left : length (drop (i - 1) rs) ≤ 256
   few-left = omega (arith, few, length-drop (i - 1) rs)
@@ -89,25 +90,20 @@ module _ (key : Key) (rs : List Record) (codes : List ℕ) (s : Walk) (i n : ℕ
   coded-more k from to =
       set-back codeOf blank rs codes i n h (omega (arith, w .within, w .count)) coded (w .coded) k from (omega (arith, to, length-set codes (i - 1) n))
 
-  in-range : s .ranged ≡ true → okPlace here ≡ true → Walked key rs (set codes (i - 1) n) (record { ranged = true; held = s .held +ℤ here .requirement; owed = s .owed +ℤ owes here; free = cond (isFree here) (i - 1) (s .free); at = cond (at key here) (i - 1) (s .at) }) (i - 1)
+  in-range : s .ranged ≡ true → okPlace here ≡ true → Walked key rs (set codes (i - 1) n) (record { ranged = true; sums = withRecord (s .sums) here; free = cond (isFree here) (i - 1) (s .free); at = cond (at key here) (i - 1) (s .at) }) (i - 1)
   in-range e fine =
       let p = w .passed e in
       let all : every okPlace (drop (i - 1) rs) ≡ true = all-of ∙ rw (fine, ← w .ranged, e) in
-      let held-so = sum-more false (s .held) (p .held) in
-      let owed-so = sum-more true (s .owed) (p .owed) in
+      let sums-so = sums-more (p .sums) in
       record {
         count = size;
         within = omega (arith, w .within);
         ranged = sym all;
-        light = record {
-          held = subst (Within 332800000000000) (sym held-so) (total-bounded false (drop (i - 1) rs) all few-left);
-          owed = subst (Within 332800000000000) (sym owed-so) (total-bounded true (drop (i - 1) rs) all few-left);
-        };
+        light = subst (SumsWithin 332800000000000) (sym sums-so) (sums-within (drop (i - 1) rs) all few-left);
         coded = coded-more;
         passed = λ _.
             record {
-              held = held-so;
-              owed = owed-so;
+              sums = sums-so;
               free = index-back isFree rs i blank h le (s .free) (p .free);
               place = index-back (at key) rs i blank h le (s .at) (p .place);
             };
@@ -119,7 +115,7 @@ module _ (key : Key) (rs : List Record) (codes : List ℕ) (s : Walk) (i n : ℕ
         count = size;
         within = omega (arith, w .within);
         ranged = sym e;
-        light = record { held = none-light; owed = none-light };
+        light = none-light;
         coded = coded-more;
         passed = never;
       }
@@ -129,7 +125,7 @@ module _ (key : Key) (rs : List Record) (codes : List ℕ) (s : Walk) (i n : ℕ
   walked-more = by (s .ranged) (okPlace here) refl refl
     where
       by : (a b : Bool) → s .ranged ≡ a → okPlace here ≡ b
-          → Walked key rs (set codes (i - 1) n) (cond (a && b) (record { ranged = true; held = s .held +ℤ here .requirement; owed = s .owed +ℤ owes here; free = cond (isFree here) (i - 1) (s .free); at = cond (at key here) (i - 1) (s .at) }) lost) (i - 1)
+          → Walked key rs (set codes (i - 1) n) (cond (a && b) (record { ranged = true; sums = withRecord (s .sums) here; free = cond (isFree here) (i - 1) (s .free); at = cond (at key here) (i - 1) (s .at) }) lost) (i - 1)
       by true true e fine = in-range e fine
       by true false e bad = out-of-range (all-of ∙ rw bad)
       by false true e fine = out-of-range (all-of ∙ rw (fine, ← w .ranged, e))
@@ -150,14 +146,8 @@ module _ (b : Book) (key : Key) (codes : List ℕ) (s : Walk) (few : length (b .
     pub place-is : s .at ≡ index (at key) (b .records)
     place-is = omega (arith, w .passed e .place)
 
-    pub summed : record { support = b .support; held = s .held; owed = s .owed; full = eqb (s .free) 256 } ≡ totals b
-    unfolding totals held owed full
-    summed = λ k. record {
-      support = b .support;
-      held = w .passed e .held k;
-      owed = w .passed e .owed k;
-      full = (ap (λ (n : ℕ). eqb n 256) free-is ∙ ap (eqb (index isFree (b .records))) (sym few) ∙ sym (missing-index isFree (b .records))) k;
-    }
+    pub summed : s .sums ≡ sumsOf (b .records)
+    summed = w .passed e .sums
 
     looked-by : (t : Bool) → ltb (s .at) 256 ≡ t → (there : Record) → (s .at < 256 → there ≡ getD (b .records) (s .at) blank) → cond t there blank ≡ getD (b .records) (s .at) blank
     looked-by true h there q = q (ltb-true (s .at) 256 h)

@@ -6,6 +6,7 @@ use mathlib.Core.List.{List}
 use mathlib.Core.Logic.{⊎-elim}
 use Prim.Native.Nat.{ℕ}
 use native.Mathlib.Omega.{arith}
+use lib.Dec.{eqb}
 use lib.IntN.{ℤ, pos, _+ℤ_, _-ℤ_}
 use lib.ListN.{length, set}
 use lib.Seq.{set-out}
@@ -28,39 +29,48 @@ use Rattle.records.proofs.Keys.{ok-place, ok-blank}
 use Rattle.records.proofs.Bounds.{requirement-bounded}
 use Rattle.messages.specs.Plan.{keyOf, plan, planned}
 use Rattle.messages.proofs.Fits.{Fits, fits}
-use Rattle.credit.specs.Weights.{owes}
-use Rattle.credit.specs.Credit.{creditRows, creditVerdict, answeredBy, pass}
-use Rattle.credit.specs.Bounds.{TotalsBounded}
+use Rattle.credit.specs.declared.types.Account.{Account}
+use Rattle.credit.specs.declared.types.Sums.{Sums}
+use Rattle.credit.specs.Account.{supported}
+use Rattle.credit.specs.Credit.{owes, creditRows, answeredBy}
+use Rattle.credit.specs.Sums.{unbilledOf, withRecord, withoutRecord, heldOf}
+use Rattle.credit.specs.NoOverflow.{SumsWithin, TotalsBounded}
+use Rattle.credit.proofs.Parts.{owes-blank, unbilled-blank, totals-bounded}
 use Rattle.credit.proofs.Rows.{credit-rows-numbered}
-use Rattle.book.specs.Places.{swap, index}
-use Rattle.book.specs.Books.{Book, lookup, sound, held, owed, totals, heldShown, owedShown}
+use Rattle.book.specs.Places.{swap}
+use Rattle.book.specs.Books.{Book, lookup, sound, held, owed, full, totals, heldAnswered, owedAnswered}
 use Rattle.endings.specs.declared.types.Answer.the-variants.{Accepted, Refused}
-use Rattle.book.specs.Step.{Outcome, concluded, change, done, outcome, step}
+use Rattle.book.specs.Step.{Outcome, change, rebook, done, outcome, step}
 use Rattle.endings.specs.declared.types.View.{View}
 use Rattle.endings.specs.declared.types.Ending.{Ending}
-use Rattle.endings.specs.Endings.{DeedSound, Ready, Apt, asVerdict, unsound, turnedAway, putIn, carriedOut, endingOf, ended}
-use Rattle.book.proofs.Passed.{swap-set}
-use Rattle.book.proofs.Sums.{total-bounded}
+use Rattle.endings.specs.Endings.{DeedSound, PlanSound, Summable, totalsOf, asVerdict, creditVerdict, pass, unsound, turnedAway, putIn, carriedOut, endingOf, ended}
+use Rattle.book.proofs.Passed.{index, swap-set, missing-index}
+use Rattle.book.proofs.Sums.{sumsOf, held-by, sums-within}
 use Rattle.book.proofs.Effect.{weight}
 use Rattle.book.proofs.Kept.{sound-places, lookup-under, lookup-none, lookup-some, effect}
-use Rattle.book.proofs.Verdicts.{verdict-is}
+use Rattle.book.proofs.Verdicts.{concluded, verdict-is}
 
--- a sound book's totals are sums of 256 requirements in range
+-- a sound book's sums are those of 256 requirements in range
+sound-within : (b : Book) → sound b ≡ true → length (b .records) ≡ 256 → SumsWithin 332800000000000 (sumsOf (b .records))
+sound-within b h e = sums-within (b .records) (sound-places b h) (omega (arith, e))
+
+-- and its totals are made of them
 pub totals-small : (b : Book) → sound b ≡ true → length (b .records) ≡ 256 → TotalsBounded (totals b)
-unfolding totals held owed
+unfolding totals owed
 totals-small b h e =
-    record { held = total-bounded false (b .records) (sound-places b h) (omega (arith, e)); owed = total-bounded true (b .records) (sound-places b h) (omega (arith, e)) }
+    subst (λ (z : ℤ). TotalsBounded (record { support = b .account .support; held = z; owed = owed b; full = full b })) (held-by b)
+    (totals-bounded (b .account .support) (full b) (sumsOf (b .records)) (sound-within b h e))
 
 -- what a message sees of a sound book
 pub record Sees (b : Book) (k : Key) (s : View) : Type 0 where
-  pub sums : s .totals ≡ totals b
+  pub sums : s .sums ≡ sumsOf (b .records)
   pub lowest : s .free ≡ index isFree (b .records)
   pub place : s .at ≡ index (at k) (b .records)
   pub under : s .old ≡ lookup b k
 
 -- the book after an ending, and the answer; past the last place nothing is written
 abbrev pub written : Book → Ending → Outcome
-written b e = record { book = record { records = set (b .records) (e .place) (e .new); support = e .support }; answer = e .answer }
+written b e = record { book = rebook b (e .account) (set (b .records) (e .place) (e .new)); answer = e .answer }
 
 as-planned : (v : Verdict Deed) → asVerdict (planned v) ≡ v
 as-planned (refuse n) = refl
@@ -69,7 +79,7 @@ as-planned (accept d) = refl
 moved-over : (x y a c : ℤ) → y +ℤ a ≡ x +ℤ c → (x -ℤ a) +ℤ c ≡ y
 moved-over x y a c e = omega (arith, signed, sum-of (x -ℤ a) c, difference-of x a, sum-of y a, sum-of x c)
 
-module _ (b : Book) (m : Message) (ms : List ℕ) (ps : List ℤ) (s : View) (few : length (b .records) ≡ 256) (support-so : s .totals .support ≡ b .support)
+module _ (b : Book) (m : Message) (ms : List ℕ) (ps : List ℤ) (s : View) (few : length (b .records) ≡ 256) (account-so : s .account ≡ b .account)
     (sound-so : s .sound ≡ sound b) (sees : sound b ≡ true → Sees b (keyOf m) s)
     (p : Planned) (planned-so : sound b ≡ true → p ≡ planned (plan (lookup b (keyOf m)) m ms ps)) where
   abbrev rs : List Record
@@ -83,17 +93,36 @@ module _ (b : Book) (m : Message) (ms : List ℕ) (ps : List ℤ) (s : View) (fe
 
   -- ---- not sound
   ends-unsound : sound b ≡ false → (v : Verdict Deed) → written b (unsound s) ≡ outcome b (concluded b v)
-  unfolding outcome concluded heldShown owedShown unsound
-  ends-unsound h v = rw h (rw h (λ i. record { book = record { records = untouched i; support = support-so i }; answer = Refused 1 (pos 0) (pos 0) }))
+  unfolding outcome concluded heldAnswered owedAnswered unsound
+  ends-unsound h v = rw h (rw h (λ i. record { book = rebook b (account-so i) (untouched i); answer = Refused 1 (pos 0) (pos 0) }))
 
   module _ (h : sound b ≡ true) where
     abbrev walk : Sees b (keyOf m) s
     walk = sees h
 
+    -- held and net owed, as the sums have them, whatever is kept beside the places
+    held-with : (a : Account) → heldOf (s .sums .unbilled) (s .sums .owed) ≡ held (rebook b a rs)
+    held-with a = ap (λ (t : Sums). heldOf (t .unbilled) (t .owed)) (walk .sums) ∙ held-by (rebook b a rs)
+
+    held-so : heldOf (s .sums .unbilled) (s .sums .owed) ≡ held b
+    held-so = held-with (b .account)
+
+    owed-so : s .sums .owed ≡ owed b
+    unfolding owed
+    owed-so = ap (λ (t : Sums). t .owed) (walk .sums)
+
+    totals-so : totalsOf s ≡ totals b
+    unfolding totals full
+    totals-so = λ i. record {
+      support = account-so i .support;
+      held = held-so i;
+      owed = owed-so i;
+      full = (ap (λ (n : ℕ). eqb n 256) (walk .lowest) ∙ ap (eqb (index isFree rs)) (sym few) ∙ sym (missing-index isFree rs)) i;
+    }
+
     ends-refused : (n : ℕ) → written b (turnedAway s n) ≡ outcome b (refuse n)
-    unfolding outcome heldShown owedShown turnedAway totals
-    ends-refused n =
-        rw h (λ i. record { book = record { records = untouched i; support = support-so i }; answer = Refused n (walk .sums i .held) (walk .sums i .owed) })
+    unfolding outcome heldAnswered owedAnswered turnedAway
+    ends-refused n = rw h (λ i. record { book = rebook b (account-so i) (untouched i); answer = Refused n (held-so i) (owed-so i) })
 
     -- ---- the next book and its sums
     module _ (q : Record → Bool) (place : ℕ) (was new : Record) (c : Change) (found : place ≡ index q rs) (changed : swap q new rs ≡ change c rs) (answers : new .requirement ≡ answeredBy (Keyed c))
@@ -101,11 +130,15 @@ module _ (b : Book) (m : Message) (ms : List ℕ) (ps : List ℤ) (s : View) (fe
       after : (f : Record → ℤ) → f blank ≡ pos 0 → (x : ℤ) → x ≡ total f rs → ((x -ℤ f was) +ℤ f new) ≡ total f (change c rs)
       after f z x e = ap (λ (y : ℤ). (y -ℤ f was) +ℤ f new) e ∙ moved-over (total f rs) (total f (change c rs)) (f was) (f new) (sums f z)
 
+      -- the sums of the next book
+      next-sums : withRecord (withoutRecord (s .sums) was) new ≡ sumsOf (change c rs)
+      next-sums = λ i. record { unbilled = after unbilledOf unbilled-blank (s .sums .unbilled) (λ j. walk .sums j .unbilled) i; owed = after owes owes-blank (s .sums .owed) (λ j. walk .sums j .owed) i }
+
       ends-put : written b (putIn s place was new) ≡ outcome b (accept (Keyed c))
-      unfolding outcome done putIn held owed totals owes
+      unfolding outcome done putIn owed
       ends-put = λ i. record {
-        book = record { records = (ap (λ (n : ℕ). set rs n new) found ∙ sym (swap-set q new rs) ∙ changed) i; support = support-so i };
-        answer = Accepted (answers i) (after (λ r. r .requirement) refl (s .totals .held) (λ j. walk .sums j .held) i) (after owes refl (s .totals .owed) (λ j. walk .sums j .owed) i);
+        book = rebook b (account-so i) ((ap (λ (n : ℕ). set rs n new) found ∙ sym (swap-set q new rs) ∙ changed) i);
+        answer = Accepted (answers i) ((ap (λ (t : Sums). heldOf (t .unbilled) (t .owed)) next-sums ∙ held-by (rebook b (b .account) (change c rs))) i) (next-sums i .owed);
       }
 
     ends-changed : (c : Change) → Fits old m (Keyed c) → None (creditRows (totals b) (Keyed c)) → written b (carriedOut s (Keyed c)) ≡ outcome b (accept (Keyed c))
@@ -124,23 +157,23 @@ module _ (b : Book) (m : Message) (ms : List ℕ) (ps : List ℤ) (s : View) (fe
         (λ g z. ap (λ (x : ℤ). total g (swap (at k) blank rs) +ℤ x) (ap g (walk .under) ∙ ap (weight g) (sym (lookup-some b (keyOf m) (f .used)))) ∙ effect b m (Remove k) h f w .sums g z ∙ ap (λ (x : ℤ). total g rs +ℤ x) (sym z))
 
     ends-carried : (d : Deed) → Fits old m d → None (creditRows (totals b) d) → written b (carriedOut s d) ≡ outcome b (accept d)
-    unfolding outcome done held owed totals
+    unfolding outcome done owed
     ends-carried (Keyed c) f w = ends-changed c f w
     ends-carried (SetSupport z) f w =
-        λ i. record { book = record { records = untouched i; support = z }; answer = Accepted (pos 0) (walk .sums i .held) (walk .sums i .owed) }
+        λ i. record { book = rebook b (supported (account-so i) z) (untouched i); answer = Accepted (pos 0) (held-with (supported (b .account) z) i) (owed-so i) }
 
     -- ---- by the plan, and then by 14 to 16
-    ends-weighed : (d : Deed) → Fits old m d → (v : Verdict Deed) → creditVerdict (totals b) d ≡ v → written b (endingOf s v) ≡ outcome b v
+    ends-rows : (d : Deed) → Fits old m d → (v : Verdict Deed) → creditVerdict (totals b) d ≡ v → written b (endingOf s v) ≡ outcome b v
     unfolding endingOf creditVerdict
-    ends-weighed d f (refuse n) e = ends-refused n
-    ends-weighed d f (accept d′) e =
+    ends-rows d f (refuse n) e = ends-refused n
+    ends-rows d f (accept d′) e =
         let passed = judge-accept (creditRows (totals b) d) d d′ (credit-rows-numbered (totals b) d) e in
         subst (λ (x : Deed). written b (carriedOut s x) ≡ outcome b (accept x)) (passed .1) (ends-carried d f (passed .0))
 
     ends-passed : (v : Verdict Deed) → plan old m ms ps ≡ v → written b (endingOf s (pass (totals b) v)) ≡ outcome b (pass (totals b) v)
     unfolding endingOf pass
     ends-passed (refuse n) e = ends-refused n
-    ends-passed (accept d) e = ends-weighed d (fits old m ms ps d (lookup-under b (keyOf m) h) e) (creditVerdict (totals b) d) refl
+    ends-passed (accept d) e = ends-rows d (fits old m ms ps d (lookup-under b (keyOf m) h) e) (creditVerdict (totals b) d) refl
 
     planned-is : asVerdict p ≡ plan old m ms ps
     planned-is = ap asVerdict (planned-so h) ∙ as-planned (plan old m ms ps)
@@ -148,12 +181,12 @@ module _ (b : Book) (m : Message) (ms : List ℕ) (ps : List ℤ) (s : View) (fe
     ends-sound : written b (ended s (asVerdict p)) ≡ outcome b (concluded b (plan old m ms ps))
     unfolding ended concluded
     ends-sound =
-        ap (λ (t : Bool). written b (cond t (endingOf s (pass (s .totals) (asVerdict p))) (unsound s))) (sound-so ∙ h)
-        ∙ (λ i. written b (endingOf s (pass (walk .sums i) (planned-is i))))
+        ap (λ (t : Bool). written b (cond t (endingOf s (pass (totalsOf s) (asVerdict p))) (unsound s))) (sound-so ∙ h)
+        ∙ (λ i. written b (endingOf s (pass (totals-so i) (planned-is i))))
         ∙ ends-passed (plan old m ms ps) refl
         ∙ ap (λ (t : Bool). outcome b (cond t (pass (totals b) (plan old m ms ps)) (refuse 1))) (sym h)
 
-    -- ---- and what it asks for can be weighed and summed
+    -- ---- and what it adds up is in range
     old-fine : okPlace old ≡ true
     old-fine = ⊎-elim (λ e. ap okPlace e ∙ ok-blank) (λ r. ok-place old (r .0)) (lookup-under b (keyOf m) h)
 
@@ -164,30 +197,26 @@ module _ (b : Book) (m : Message) (ms : List ℕ) (ps : List ℤ) (s : View) (fe
     fair (Keyed (Remove k)) f = tt
     fair (SetSupport z) f = tt
 
-    ready : (d : Deed) → plan old m ms ps ≡ accept d → Ready s d
-    ready d e =
-        record {
-          small = subst TotalsBounded (sym (walk .sums)) (totals-small b h few);
-          old = ap okPlace (walk .under) ∙ old-fine;
-          fair = fair d (fits old m ms ps d (lookup-under b (keyOf m) h) e);
-        }
+    plan-sound : (x : Planned) → p ≡ x → PlanSound x
+    plan-sound (Turned n) e = tt
+    plan-sound (Asks d) e = fair d (fits old m ms ps d (lookup-under b (keyOf m) h) (sym planned-is ∙ ap asVerdict e))
 
   -- an ending, written, is the step
   ends-by : (t : Bool) → sound b ≡ t → written b (ended s (asVerdict p)) ≡ outcome b (concluded b (plan old m ms ps))
   unfolding ended
   ends-by true h = ends-sound h
   ends-by false h =
-      ap (λ (t : Bool). written b (cond t (endingOf s (pass (s .totals) (asVerdict p))) (unsound s))) (sound-so ∙ h) ∙ ends-unsound h (plan old m ms ps)
+      ap (λ (t : Bool). written b (cond t (endingOf s (pass (totalsOf s) (asVerdict p))) (unsound s))) (sound-so ∙ h) ∙ ends-unsound h (plan old m ms ps)
 
   pub ends : written b (ended s (asVerdict p)) ≡ step b m ms ps
   unfolding step
   ends = ends-by (sound b) refl ∙ ap (outcome b) (sym (verdict-is b m ms ps))
 
-  apt-of : (x : Planned) → p ≡ x → Apt s x
-  apt-of (Turned n) e = tt
-  apt-of (Asks d) e = λ t.
+  pub summable : s .sound ≡ true → Summable s p
+  summable t =
       let h : sound b ≡ true = sym sound-so ∙ t in
-      ready h d (sym (planned-is h) ∙ ap asVerdict e)
-
-  pub apt : Apt s p
-  apt = apt-of p refl
+      record {
+        sums = subst (SumsWithin 332800000000000) (sym (sees h .sums)) (sound-within b h few);
+        old = ap okPlace (sees h .under) ∙ old-fine h;
+        plan = plan-sound h p refl;
+      }

@@ -9,9 +9,9 @@ use Rattle.amounts.specs.Lists.{total, every}
 use Rattle.records.specs.declared.types.Key.{Key}
 use Rattle.records.specs.declared.types.Record.{Record}
 use Rattle.records.specs.Records.{blank, isFree, at, okPlace}
-use Rattle.credit.specs.Weights.{owes}
 use Rattle.credit.specs.declared.types.Totals.{Totals}
-use Rattle.credit.specs.Credit.{suspended}
+use Rattle.credit.specs.Account.{freshAccount}
+use Rattle.credit.specs.Credit.{owes, suspended}
 use Rattle.book.specs.Places.{find, missing, orElseBlank}
 pub use Rattle.book.specs.declared.types.Book.{Book}
 
@@ -26,7 +26,7 @@ distinct (r ∷ rs) = (isFree r || missing (find (at (r .key)) rs)) && distinct 
 
 -- 'A book is sound when support is in range, keys are distinct, free places are zero, every field is in its range, ..'
 unfoldable pub sound : Book → Bool
-sound b = isSupport (b .support) && every okPlace (b .records) && distinct (b .records)
+sound b = isSupport (b .account .support) && every okPlace (b .records) && distinct (b .records)
 
 -- 'Held is the sum of all requirements'
 unfoldable pub held : Book → ℤ
@@ -42,9 +42,16 @@ full b = missing (find isFree (b .records))
 
 -- all that refusals 14 to 16 see of the book
 unfoldable pub totals : Book → Totals
-totals b = record { support = b .support; held = held b; owed = owed b; full = full b }
+totals b = record { support = b .account .support; held = held b; owed = owed b; full = full b }
 
--- what a screen is shown, and a refusal answers: the paper says 'both 0' for a book that is not sound, and such a book takes no bid
+-- what a refusal answers: 'the held and net owed of the unchanged book (both 0 for 1)'; refusal 1 is given exactly where the book is not sound
+unfoldable pub heldAnswered : Book → ℤ
+heldAnswered b = cond (sound b) (held b) (pos 0)
+
+unfoldable pub owedAnswered : Book → ℤ
+owedAnswered b = cond (sound b) (owed b) (pos 0)
+
+-- what a screen is shown: of a book that is not sound, what its refusal answers; and it takes no bid, so it shows as suspended
 unfoldable pub heldShown : Book → ℤ
 heldShown b = cond (sound b) (held b) (pos 0)
 
@@ -59,4 +66,4 @@ unfoldable pub noRecords : List Record
 noRecords = replicate 256 blank
 
 abbrev pub empty : ℤ → Book
-empty support = record { records = noRecords; support = support }
+empty support = record { records = noRecords; account = freshAccount support }

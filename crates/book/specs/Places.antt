@@ -3,7 +3,6 @@
 use mathlib.Core.Bool.{Bool, true, false, cond}
 use mathlib.Core.List.{List, [], _∷_}
 use mathlib.Core.Option.{Option, none, some}
-use Prim.Native.Nat.{ℕ, _+_}
 
 module _ {A : Type 0} where
   -- the first place that passes the test
@@ -23,8 +22,3 @@ module _ {A : Type 0} where
   unfoldable pub orElseBlank : A → Option A → A
   orElseBlank blank none = blank
   orElseBlank blank (some x) = x
-
-  -- how many places stand before it; all of them where no place passes
-  unfoldable pub index : (A → Bool) → List A → ℕ
-  index p [] = 0
-  index p (x ∷ xs) = cond (p x) 0 (index p xs + 1)

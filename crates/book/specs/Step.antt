@@ -1,12 +1,12 @@
 -- Document 01, 'Messages and stages' and 'Turned away, and why': what a message answers, and the next book.
--- A message's refusals 2 to 13 and what it asks for stand in crate `plans`, specs/Plan.antt; refusals 14 to 16 in crate `weighing`, specs/Credit.antt.
+-- The table of refusals is specs/Refusals.antt; what a message asks for stands in crate `messages`, specs/Plan.antt.
 -- Assumes nothing.
-use mathlib.Core.Bool.{not, cond}
-use mathlib.Core.List.{List, _∷_, _++_}
+use mathlib.Core.Bool.{cond}
+use mathlib.Core.List.{List}
 use Prim.Native.Nat.{ℕ}
 use lib.IntN.{ℤ, pos}
 use Rattle.amounts.specs.Limits.{isSupport}
-use Rattle.refusals.specs.Refusals.{Row, row, Verdict, refuse, accept, judge}
+use Rattle.refusals.specs.Refusals.{Verdict, refuse, accept, judge}
 use Rattle.records.specs.declared.types.Record.{Record}
 use Rattle.messages.specs.declared.types.Message.{Message}
 use Rattle.messages.specs.declared.types.Change.{Change}
@@ -14,29 +14,25 @@ use Rattle.messages.specs.declared.types.Change.the-variants.{Add, Rebid, Advan
 use Rattle.messages.specs.declared.types.Deed.{Deed}
 use Rattle.messages.specs.declared.types.Deed.the-variants.{Keyed, SetSupport}
 use Rattle.records.specs.Records.{blank, isFree, at}
-use Rattle.messages.specs.Plan.{keyOf, deedFor, planRows}
+use Rattle.messages.specs.Plan.{keyOf, deedFor}
 use Rattle.endings.specs.declared.types.Answer.the-variants.{Accepted, Refused}
 pub use Rattle.book.specs.declared.types.Outcome.{Outcome}
 use Rattle.book.specs.Places.{swap}
-use Rattle.credit.specs.Credit.{creditRows, pass, answeredBy}
-use Rattle.book.specs.Books.{Book, lookup, sound, held, owed, totals, heldShown, owedShown, empty}
+use Rattle.credit.specs.declared.types.Account.{Account}
+use Rattle.credit.specs.Account.{supported}
+use Rattle.credit.specs.Credit.{answeredBy}
+use Rattle.book.specs.Books.{Book, lookup, held, owed, heldAnswered, owedAnswered, empty}
+use Rattle.book.specs.Refusals.{table}
 
--- ---- all the refusals that concern a message, in the paper's order
+-- ---- accepted or refused
 
+-- what a message asks for
 unfoldable pub deedOf : Book → Message → List ℕ → List ℤ → Deed
 deedOf b m mwhs prices = deedFor (lookup b (keyOf m)) m mwhs prices
 
-unfoldable pub table : Book → Message → List ℕ → List ℤ → List Row
-table b m mwhs prices =
-    row 1 (not (sound b)) ∷ (planRows (lookup b (keyOf m)) m mwhs prices ++ creditRows (totals b) (deedOf b m mwhs prices))
-
--- accepted exactly when none of them applies, else the first. proofs/Verdicts.antt has it in the two parts that the table is made of,
--- 2 to 13 by the message and its record, then 14 to 16 by the totals (verdict-is)
+-- accepted exactly when no row of the table applies, else the first
 unfoldable pub verdict : Book → Message → List ℕ → List ℤ → Verdict Deed
 verdict b m mwhs prices = judge (table b m mwhs prices) (deedOf b m mwhs prices)
-
-unfoldable pub concluded : Book → Verdict Deed → Verdict Deed
-concluded b v = cond (sound b) (pass (totals b) v) (refuse 1)
 
 -- ---- the next book
 
@@ -48,19 +44,19 @@ change (Advance r) places = swap (at (r .key)) r places
 change (Remove k) places = swap (at k) blank places
 
 -- the one way in which a book follows from another
-abbrev pub rebook : Book → ℤ → List Record → Book
-rebook b support places = record { records = places; support = support }
+abbrev pub rebook : Book → Account → List Record → Book
+rebook b account places = record { records = places; account = account }
 
 unfoldable pub done : Book → Deed → Book
-done b (Keyed c) = rebook b (b .support) (change c (b .records))
-done b (SetSupport support) = rebook b support (b .records)
+done b (Keyed c) = rebook b (b .account) (change c (b .records))
+done b (SetSupport support) = rebook b (supported (b .account) support) (b .records)
 
 -- ---- the answer
 
 -- 'Acceptance answers the key's requirement, held and net owed of the next book. A refusal answers its number, ..
--- the held and net owed of the unchanged book (both 0 for 1)'; refusal 1 is given exactly where the book is not sound
+-- the held and net owed of the unchanged book (both 0 for 1)'
 unfoldable pub outcome : Book → Verdict Deed → Outcome
-outcome b (refuse n) = record { book = b; answer = Refused n (heldShown b) (owedShown b) }
+outcome b (refuse n) = record { book = b; answer = Refused n (heldAnswered b) (owedAnswered b) }
 outcome b (accept d) = record { book = done b d; answer = Accepted (answeredBy d) (held (done b d)) (owed (done b d)) }
 
 unfoldable pub step : Book → Message → List ℕ → List ℤ → Outcome

@@ -38,12 +38,13 @@ impl Book {
         }
         // Where the key is not open some other place is read, and passed over.
         let old = walk.old(next.records[walk.at as usize % Book::PLACES]);
-        let view = View::of(walk, next.support, &codes, old);
+        let view = View::of(walk, next.account, &codes, old);
         let ending = view.ending(plan_of(message, old, mwh, prices));
         let answer = ending.answer;
         let place = ending.place as usize;
         let new = ending.new;
-        next.support = ending.support;
+        let account = ending.account;
+        next.account = account;
         if place < Book::PLACES {
             next.records[place] = new;
         }

@@ -1,11 +1,12 @@
 // A fresh book, and what a screen asks of a book.
 ghost use mathlib.Core.Path.{_≡_};
 ghost use mathlib.Core.Bool.{cond};
-ghost use Rattle.book.specs.Books.{empty as emptyOf, sound, heldShown, owedShown, suspendedShown};
+ghost use Rattle.book.specs.Books.{empty as emptyOf, sound, heldShown, owedShown, suspendedShown, heldAnswered, owedAnswered};
 ghost use Rattle.book.specs.Step.{fresh as freshOf};
 use crate::types::Book;
 use crate::types::Outcome;
 use amounts::Amount;
+use credit::types::Account;
 use credit::types::Totals;
 use endings::types::Answer;
 use messages::types::Funding;
@@ -16,9 +17,10 @@ impl Book {
         ensures { λ r. ⌜ r ≡ emptyOf support ⌝ }
     {
         let blank = Record::blank();
+        let account = Account::fresh(support);
         Book {
             records: [blank; 256],
-            support,
+            account,
         }
     }
 
@@ -49,7 +51,7 @@ impl Book {
 
     // What a screen asks is answered by a message that is always refused, as every refusal answers held and net owed: a support out of range.
     fn status(self) -> Answer
-        ensures { λ a. ⌜ a ≡ Answer.Refused (cond (sound self) 9 1) (heldShown self) (owedShown self) ⌝ }
+        ensures { λ a. ⌜ a ≡ Answer.Refused (cond (sound self) 9 1) (heldAnswered self) (owedAnswered self) ⌝ }
     {
         self.support(Funding { cents: -1 }).answer
     }
@@ -71,7 +73,7 @@ impl Book {
     pub fn is_sound(self) -> bool
         ensures { λ r. ⌜ r ≡ sound self ⌝ }
     {
-        !self.status().is_unsound()
+        !(self.status().number() == 1)
     }
 
     // A book that is not sound takes no bid, so it shows as suspended.
@@ -80,11 +82,11 @@ impl Book {
     {
         let answer = self.status();
         let totals = Totals {
-            support: self.support,
+            support: self.account.support,
             held: answer.held(),
             owed: answer.net_owed(),
             full: false,
         };
-        answer.is_unsound() | totals.is_suspended()
+        (answer.number() == 1) | totals.is_suspended()
     }
 }

@@ -3,7 +3,10 @@ mod apply;
 mod fresh;
 pub mod types;
 
+pub use credit::types::Account;
 pub use endings::types::Answer;
+pub use kinds::Kind;
+pub use kinds::Stage;
 pub use messages::types::Billing;
 pub use messages::types::Finishing;
 pub use messages::types::Funding;

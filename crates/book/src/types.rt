@@ -1,11 +1,12 @@
 // One customer's book, and what a message to it answers.
+use credit::types::Account;
 use endings::types::Answer;
 use records::types::Record;
 
 pub struct Book {
     // First, since the paths of proofs follow a field's position.
     pub records: [Record; 256],
-    pub support: i64,
+    pub account: Account,
 }
 
 impl Book {

@@ -1,15 +1,22 @@
 -- Document 01, 'Turned away, and why': refusals 14 to 16, which see a book's totals and what is asked for, and nothing else;
--- and the requirement that an acceptance answers.
+-- what of a record is owed, and the requirement that an acceptance answers.
 -- Assumes nothing.
-use mathlib.Core.Bool.{Bool, _&&_}
+use mathlib.Core.Bool.{Bool, _&&_, cond}
 use mathlib.Core.List.{List, [], _∷_}
+use lib.Dec.{eqb}
 use lib.IntN.{ℤ, pos, _+ℤ_, _-ℤ_, _*ℤ_}
 use lib.Signed.{ltZ, leZ}
-use Rattle.refusals.specs.Refusals.{Row, row, Verdict, refuse, accept, judge}
+use Rattle.refusals.specs.Refusals.{Row, row}
+use Rattle.kinds.specs.Kinds.{billedStage}
+use Rattle.records.specs.declared.types.Record.{Record}
 use Rattle.messages.specs.declared.types.Change.the-variants.{Add, Rebid, Advance, Remove}
 use Rattle.messages.specs.declared.types.Deed.{Deed}
 use Rattle.messages.specs.declared.types.Deed.the-variants.{Keyed, SetSupport}
 pub use Rattle.credit.specs.declared.types.Totals.{Totals}
+
+-- what of a record is owed: 'Net owed is the sum over stage 4'
+unfoldable pub owes : Record → ℤ
+owes r = cond (eqb (r .stage) billedStage) (r .requirement) (pos 0)
 
 -- 'The book is suspended exactly when 2 x net owed is at least the support'
 unfoldable pub suspended : Totals → Bool
@@ -24,14 +31,6 @@ creditRows t (Keyed (Rebid was r)) =
 creditRows t (Keyed (Advance r)) = []
 creditRows t (Keyed (Remove k)) = []
 creditRows t (SetSupport support) = []
-
-unfoldable pub creditVerdict : Totals → Deed → Verdict Deed
-creditVerdict t d = judge (creditRows t d) d
-
--- 2 to 13 first: these are asked where those have passed
-unfoldable pub pass : Totals → Verdict Deed → Verdict Deed
-pass t (refuse n) = refuse n
-pass t (accept d) = creditVerdict t d
 
 -- 'the key's requirement (0 after withdraw, pay and support)'
 abbrev pub answeredBy : Deed → ℤ

@@ -1,3 +1,4 @@
-pub mod Weights
+pub mod Account
 pub mod Credit
-pub mod Bounds
+pub mod Sums
+pub mod NoOverflow

@@ -1,6 +1,6 @@
 -- An accepted message: what its acceptance says, and what it does.
 -- Assumes nothing.
-use mathlib.Core.Path.{_≡_}
+use mathlib.Core.Path.{_≡_, subst}
 use mathlib.Core.Bool.{true}
 use mathlib.Core.List.{List}
 use Prim.Native.Nat.{ℕ}
@@ -14,7 +14,9 @@ use Rattle.messages.proofs.Fits.{Fits, fits}
 use Rattle.credit.specs.Credit.{creditRows, answeredBy}
 use Rattle.book.specs.declared.types.Book.{Book}
 use Rattle.book.specs.Books.{lookup, sound, held, owed, totals}
-use Rattle.book.specs.Step.{deedOf, table, done, verdict, outcome, step}
+use Rattle.book.specs.Refusals.{table}
+use Rattle.book.proofs.Verdicts.{table-parts}
+use Rattle.book.specs.Step.{deedOf, done, verdict, outcome, step}
 use Rattle.book.proofs.Kept.{lookup-under}
 use Rattle.demands.specs.Runs.{replied}
 use Rattle.demands.proofs.Answers.{accepted-none}
@@ -31,8 +33,10 @@ module _ (b : Book) (m : Message) (ms : List ℕ) (ps : List ℤ) where
     pub owed : replied b m ms ps .owed ≡ owed (step b m ms ps .book)
 
   apart-of : None (table b m ms ps) → (sound b ≡ true) × (None (planRows (lookup b (keyOf m)) m ms ps) × None (creditRows (totals b) (deedOf b m ms ps)))
-  unfolding table None
-  apart-of n = (not-false (sound b) (n .0), none-split (planRows (lookup b (keyOf m)) m ms ps) (creditRows (totals b) (deedOf b m ms ps)) (n .1))
+  unfolding None
+  apart-of n =
+      let s = subst None (table-parts b m ms ps) n in
+      (not-false (sound b) (s .0), none-split (planRows (lookup b (keyOf m)) m ms ps) (creditRows (totals b) (deedOf b m ms ps)) (s .1))
 
   -- what the acceptance of a message says
   pub taken : replied b m ms ps .number ≡ 0 → Taken

@@ -1,6 +1,6 @@
 -- The number that is answered: accepted exactly when no row applies, else the first that does; and what a refusal gives back.
 -- Assumes nothing.
-use mathlib.Core.Path.{_≡_, refl, sym, _∙_, subst}
+use mathlib.Core.Path.{_≡_, refl, sym, ap, _∙_, subst}
 use mathlib.Core.Bool.{Bool, true, false, cond}
 use mathlib.Core.List.{List}
 use Prim.Native.Nat.{ℕ}
@@ -16,17 +16,20 @@ use Rattle.messages.proofs.Fits.{plan-rows-numbered}
 use Rattle.credit.proofs.Rows.{credit-rows-numbered}
 use Rattle.credit.specs.Credit.{creditRows}
 use Rattle.book.specs.declared.types.Book.{Book}
-use Rattle.book.specs.Books.{lookup, totals, heldShown, owedShown}
+use Rattle.book.specs.Books.{lookup, totals, heldAnswered, owedAnswered}
 use Rattle.endings.specs.Answers.{reply}
-use Rattle.book.specs.Step.{deedOf, table, verdict, outcome, step}
+use Rattle.book.specs.Refusals.{table}
+use Rattle.book.proofs.Verdicts.{table-parts}
+use Rattle.book.specs.Step.{deedOf, verdict, outcome, step}
 use Rattle.demands.specs.Runs.{nextBook, replied}
 use Rattle.demands.specs.One.{Refusal}
 
 module _ (b : Book) (m : Message) (ms : List ℕ) (ps : List ℤ) where
   pub table-numbered : numbered (table b m ms ps) ≡ true
-  unfolding table numbered
+  unfolding numbered
   table-numbered =
-      numbered-append (planRows (lookup b (keyOf m)) m ms ps) (creditRows (totals b) (deedOf b m ms ps)) (plan-rows-numbered (lookup b (keyOf m)) m ms ps)
+      ap numbered (table-parts b m ms ps)
+      ∙ numbered-append (planRows (lookup b (keyOf m)) m ms ps) (creditRows (totals b) (deedOf b m ms ps)) (plan-rows-numbered (lookup b (keyOf m)) m ms ps)
       (credit-rows-numbered (totals b) (deedOf b m ms ps))
 
   number-by : (n : ℕ) (d : Deed) (t : Bool) → eqb n 0 ≡ t → reply (outcome b (cond t (accept d) (refuse n)) .answer) .number ≡ n
@@ -56,7 +59,7 @@ module _ (b : Book) (m : Message) (ms : List ℕ) (ps : List ℤ) where
 
   unchanged-by : (n : ℕ) (d : Deed) (t : Bool) → eqb n 0 ≡ t → (n ≡ 0 → ⊥)
       → let o = outcome b (cond t (accept d) (refuse n)) in Refusal b (o .book) (reply (o .answer))
-  unfolding outcome heldShown owedShown
+  unfolding outcome heldAnswered owedAnswered
   unchanged-by n d true e h = absurd (h (eqb-true n 0 e))
   unchanged-by n d false e h = record { book = refl; requirement = refl; held = refl; owed = refl }
 

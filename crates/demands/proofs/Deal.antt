@@ -9,7 +9,7 @@ use Prim.Native.Nat.{ℕ, _+_, _≤_}
 use native.Mathlib.Omega.{arith}
 use lib.IntN.{ℤ, pos, _+ℤ_, +ℤ-comm}
 use lib.ListN.{length}
-use Rattle.amounts.specs.Lists.{total, count}
+use Rattle.amounts.specs.Lists.{total}
 use Rattle.amounts.proofs.Signed.{signed, tested, sum-of}
 use Rattle.refusals.specs.Refusals.{None}
 use Rattle.refusals.proofs.Laws.{never, none-join}
@@ -30,7 +30,9 @@ use Rattle.book.specs.declared.types.Book.{Book}
 use Rattle.book.specs.Places.{find, orElseBlank}
 use Rattle.book.specs.Books.{lookup, sound, full, totals}
 use Rattle.endings.specs.Answers.{reply}
-use Rattle.book.specs.Step.{deedOf, table, done, step}
+use Rattle.book.proofs.Verdicts.{table-parts}
+use Rattle.book.specs.Step.{deedOf, done, step}
+use Rattle.book.proofs.Places.{count}
 use Rattle.book.proofs.Effect.{Effect, weight, mark}
 use Rattle.book.proofs.Kept.{lookup-none, effect, leaves, done-sound}
 use Rattle.demands.proofs.Answers.{none-accepted}
@@ -220,8 +222,10 @@ keyed-asks old (Support s) ms ps h = never h
 -- accepted, from the parts of the table
 pub takes : (b : Book) (m : Message) (ms : List ℕ) (ps : List ℤ) → sound b ≡ true → None (planRows (lookup b (keyOf m)) m ms ps) → None (creditRows (totals b) (deedOf b m ms ps))
     → reply (step b m ms ps .answer) .number ≡ 0
-unfolding table None
-takes b m ms ps h p w = none-accepted b m ms ps (ap not h, none-join (planRows (lookup b (keyOf m)) m ms ps) (creditRows (totals b) (deedOf b m ms ps)) p w)
+unfolding None
+takes b m ms ps h p w =
+    none-accepted b m ms ps
+    (subst None (sym (table-parts b m ms ps)) (ap not h, none-join (planRows (lookup b (keyOf m)) m ms ps) (creditRows (totals b) (deedOf b m ms ps)) p w))
 
 pub record Went (o : Key → Bool) (W : Book) (D : Bool → Book) (x : Dealt) : Type 0 where
   pub taken : reply (sentTo (D (x .side)) (x .sent) .answer) .number ≡ 0

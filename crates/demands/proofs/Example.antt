@@ -21,11 +21,11 @@ use Rattle.records.specs.Records.{isBlank, isFree, sameKey, at, keeps, okRecord
 use Rattle.messages.specs.declared.types.Message.{Message}
 use Rattle.messages.specs.declared.types.Message.the-variants.{Open, Post, Finish, Bill, Pay, Support}
 use Rattle.messages.specs.Plan.{bidFor, postedFor, finishedFor, stageRows}
-use Rattle.credit.specs.Credit.{suspended}
-use Rattle.credit.specs.Weights.{owes}
+use Rattle.credit.specs.Credit.{owes, suspended}
 use Rattle.book.specs.Places.{find, swap, missing, orElseBlank}
 use Rattle.book.specs.Books.{lookup, distinct, sound, held, owed, full, totals, noRecords}
-use Rattle.book.specs.Step.{deedOf, table, verdict, change, done, outcome, step, fresh}
+use Rattle.book.specs.Refusals.{table}
+use Rattle.book.specs.Step.{deedOf, verdict, change, done, outcome, step, fresh}
 use Rattle.demands.specs.Runs.{after}
 use Rattle.demands.specs.Three.{Accepted, requirements, Dealt, whole, part, owner, Follows, Fair, wholeBook, sideBook, DemandThree}
 use Rattle.demands.proofs.Three.{demand-three}

@@ -8,7 +8,7 @@ use native.Mathlib.Omega.{arith}
 use lib.IntN.{ℤ, pos, _+ℤ_, +ℤ-idl}
 use lib.ListN.{length, replicate, length-replicate}
 use Rattle.amounts.specs.Limits.{isSupport}
-use Rattle.amounts.specs.Lists.{sum, total, count}
+use Rattle.amounts.specs.Lists.{sum, total}
 use Rattle.amounts.proofs.Signed.{tested}
 use Rattle.records.specs.declared.types.Key.{Key}
 use Rattle.records.specs.declared.types.Record.{Record}
@@ -17,7 +17,7 @@ use Rattle.records.proofs.Keys.{at-blank}
 use Rattle.book.specs.declared.types.Book.{Book}
 use Rattle.book.specs.Books.{totals, noRecords, empty}
 use Rattle.book.specs.Step.{fresh}
-use Rattle.book.proofs.Places.{count-find}
+use Rattle.book.proofs.Places.{count, count-find}
 use Rattle.demands.proofs.Soundness.{empty-sound}
 use Rattle.demands.specs.Three.{topSupport}
 use Rattle.demands.proofs.Deal.{under, Deal}

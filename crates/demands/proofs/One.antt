@@ -8,7 +8,8 @@ use Rattle.refusals.specs.Refusals.{First}
 use Rattle.refusals.proofs.Laws.{one-answer}
 use Rattle.messages.specs.declared.types.Message.{Message}
 use Rattle.book.specs.declared.types.Book.{Book}
-use Rattle.book.specs.Step.{table, step, fresh}
+use Rattle.book.specs.Refusals.{table}
+use Rattle.book.specs.Step.{step, fresh}
 use Rattle.demands.specs.Runs.{after}
 use Rattle.demands.specs.One.{DemandOne, FreshRuns}
 use Rattle.demands.proofs.Answers.{accepted-none, none-accepted, refused-first, first-refused, unchanged}

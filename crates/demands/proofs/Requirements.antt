@@ -25,6 +25,7 @@ use Rattle.messages.proofs.Fits.{Fits}
 use Rattle.messages.proofs.Formulas.{bid-is, revised-is, posted-is, finished-is}
 use Rattle.credit.specs.Credit.{creditRows, answeredBy}
 use Rattle.book.specs.declared.types.Book.{Book}
+use Rattle.credit.specs.Account.{supported}
 use Rattle.book.specs.Places.{orElseBlank}
 use Rattle.book.specs.Books.{lookup, sound, totals}
 use Rattle.book.specs.Step.{deedOf, done}

@@ -7,14 +7,14 @@ use mathlib.Core.Option.{Option, none, some}
 use Prim.Native.Nat.{ℕ, zero, suc, _+_, _≤_}
 use native.Mathlib.Omega.{arith}
 use lib.ListN.{length}
-use Rattle.amounts.specs.Lists.{sum, count, bit}
+use Rattle.amounts.specs.Lists.{sum}
 use Rattle.refusals.proofs.Laws.{never}
 use Rattle.records.specs.declared.types.Record.{Record}
 use Rattle.records.specs.Records.{isFree}
 use Rattle.book.specs.declared.types.Book.{Book}
 use Rattle.book.specs.Books.{full}
 use Rattle.book.specs.Places.{find, missing}
-use Rattle.book.proofs.Places.{none≢some, find-count, count-find}
+use Rattle.book.proofs.Places.{count, bit, none≢some, find-count, count-find}
 
 bits : (b : Bool) → bit b + bit (not b) ≡ 1
 bits true = refl

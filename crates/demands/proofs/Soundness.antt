@@ -12,6 +12,7 @@ use Rattle.amounts.specs.Lists.{every}
 use Rattle.refusals.proofs.Laws.{and-left, and-right}
 use Rattle.messages.specs.declared.types.Message.{Message}
 use Rattle.records.specs.Records.{isBlank, isFree, okPlace}
+use Rattle.credit.specs.Account.{freshAccount}
 use Rattle.book.specs.declared.types.Book.{Book}
 use Rattle.book.specs.Books.{sound, distinct, noRecords, empty}
 use Rattle.book.specs.declared.types.Outcome.{Outcome}
@@ -50,7 +51,7 @@ pub empty-sound : (z : ℤ) → isSupport z ≡ true → sound (empty z) ≡ tru
 empty-sound z h =
     let places = every okPlace noRecords in
     let apart = distinct noRecords in
-    sound-make (empty z) z noRecords h (and-left places apart empty-places) (and-right places apart empty-places)
+    sound-make (empty z) (freshAccount z) noRecords h (and-left places apart empty-places) (and-right places apart empty-places)
 
 fresh-by : (z : ℤ) (t : Bool) → isSupport z ≡ t → (o : Outcome) → o ≡ cond t (record { book = empty z; answer = Accepted (pos 0) (pos 0) (pos 0) }) (record { book = empty (pos 0); answer = Refused 9 (pos 0) (pos 0) }) → sound (o .book) ≡ true
 fresh-by z true e o q = rw q (empty-sound z e)

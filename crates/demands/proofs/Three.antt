@@ -10,7 +10,7 @@ use Rattle.records.specs.declared.types.Record.{Record}
 use Rattle.records.specs.Records.{blank, sameKey}
 use Rattle.records.proofs.Keys.{sameKey-eq}
 use Rattle.messages.specs.Plan.{keyOf, opens}
-use Rattle.credit.specs.Weights.{owes}
+use Rattle.credit.specs.Credit.{owes}
 use Rattle.book.specs.declared.types.Book.{Book}
 use Rattle.book.specs.Places.{orElseBlank}
 use Rattle.book.specs.Books.{lookup, held, owed}

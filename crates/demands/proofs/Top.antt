@@ -1,4 +1,4 @@
--- At the top support nothing is too much: 256 requirements and one more, each within 1,300,000,000,000, are below half of it.
+-- At the top support nothing is too much: what is owed is below half of it, and held with one requirement more is below it.
 -- Assumes nothing.
 use mathlib.Core.Path.{_≡_, refl, sym, ap, subst}
 use mathlib.Core.Bool.{Bool, true, false, _&&_}
@@ -19,7 +19,7 @@ use Rattle.messages.specs.declared.types.Deed.{Deed}
 use Rattle.messages.specs.declared.types.Deed.the-variants.{Keyed, SetSupport}
 use Rattle.messages.specs.Plan.{keyOf, opens}
 use Rattle.messages.proofs.Fits.{Fine, Fits}
-use Rattle.credit.specs.Bounds.{TotalsBounded}
+use Rattle.credit.specs.NoOverflow.{TotalsBounded}
 use Rattle.credit.specs.declared.types.Totals.{Totals}
 use Rattle.credit.specs.Credit.{suspended, creditRows}
 use Rattle.book.specs.declared.types.Book.{Book}
@@ -36,13 +36,13 @@ module _ (t : Totals) (top : t .support ≡ pos topSupport) (small : TotalsBound
       tested (leZ (t .support) (pos 2 *ℤ t .owed)) (λ e. absurd (omega (arith, signed, ap up top, ap down top, times-of 2 (t .owed), small .owed)))
       (λ e. e)
 
-  not-above : (z : ℤ) → Within 400_000_000_000_000 z → ltZ (t .support) z ≡ false
+  not-above : (z : ℤ) → Within 900_000_000_000_000 z → ltZ (t .support) z ≡ false
   not-above z h = tested (ltZ (t .support) z) (λ e. absurd (omega (arith, signed, ap up top, ap down top))) (λ e. e)
 
-  added-within : (z : ℤ) → Within 1300000000000 z → Within 400_000_000_000_000 (t .held +ℤ z)
+  added-within : (z : ℤ) → Within 1300000000000 z → Within 900_000_000_000_000 (t .held +ℤ z)
   added-within z h = omega (arith, sum-of (t .held) z, small .held)
 
-  redone-within : (was z : ℤ) → Within 1300000000000 was → Within 1300000000000 z → Within 400_000_000_000_000 (t .held -ℤ was +ℤ z)
+  redone-within : (was z : ℤ) → Within 1300000000000 was → Within 1300000000000 z → Within 900_000_000_000_000 (t .held -ℤ was +ℤ z)
   redone-within was z k h = omega (arith, sum-of (t .held -ℤ was) z, difference-of (t .held) was, small .held)
 
 and-false : (a b : Bool) → b ≡ false → (a && b) ≡ false

@@ -17,8 +17,7 @@ use Rattle.records.proofs.Keys.{place-free}
 use Rattle.messages.specs.declared.types.Message.{Message}
 use Rattle.messages.specs.declared.types.Message.the-variants.{Open, Revise, Withdraw, Post, Finish, Bill, Pay, Support}
 use Rattle.messages.specs.declared.types.Funding.{Funding}
-use Rattle.credit.specs.Credit.{suspended}
-use Rattle.credit.specs.Weights.{owes}
+use Rattle.credit.specs.Credit.{owes, suspended}
 use Rattle.book.specs.declared.types.Book.{Book}
 use Rattle.book.specs.Books.{sound, held, owed, totals, suspendedShown, noRecords, empty}
 use Rattle.book.specs.Step.{deedOf, done}

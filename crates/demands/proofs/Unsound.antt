@@ -25,7 +25,8 @@ use Rattle.credit.specs.declared.types.Totals.{Totals}
 use Rattle.credit.specs.Credit.{creditRows}
 use Rattle.book.specs.declared.types.Book.{Book}
 use Rattle.book.specs.Books.{lookup, sound, totals}
-use Rattle.book.specs.Step.{deedOf, table}
+use Rattle.book.proofs.Verdicts.{table-parts}
+use Rattle.book.specs.Step.{deedOf}
 use Rattle.demands.specs.Runs.{replied}
 use Rattle.demands.proofs.Answers.{number-is}
 
@@ -71,17 +72,17 @@ credit-others t (SetSupport support) = refl
 
 module _ (b : Book) (m : Message) (ms : List ℕ) (ps : List ℤ) where
   pub unsound-one : sound b ≡ false → replied b m ms ps .number ≡ 1
-  unfolding table first
-  unsound-one h = number-is b m ms ps ∙ rw h
+  unfolding first
+  unsound-one h = number-is b m ms ps ∙ ap first (table-parts b m ms ps) ∙ rw h
 
   -- a sound book never answers refusal 1
   pub sound-other : replied b m ms ps .number ≡ 1 → sound b ≡ true → ⊥
-  unfolding table first
+  unfolding first
   sound-other h s =
       let p = planRows (lookup b (keyOf m)) m ms ps in
       let w = creditRows (totals b) (deedOf b m ms ps) in
       other-first (p ++ w) (others-append p w (plan-others (lookup b (keyOf m)) m ms ps) (credit-others (totals b) (deedOf b m ms ps)))
-      (sym (ap (λ (t : Bool). cond (not t) 1 (first (p ++ w))) s) ∙ sym (number-is b m ms ps) ∙ h)
+      (sym (ap (λ (t : Bool). cond (not t) 1 (first (p ++ w))) s) ∙ sym (ap first (table-parts b m ms ps)) ∙ sym (number-is b m ms ps) ∙ h)
 
   pub one-unsound : replied b m ms ps .number ≡ 1 → sound b ≡ false
   one-unsound h = tested (sound b) (λ s. absurd (sound-other h s)) (λ s. s)

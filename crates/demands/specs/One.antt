@@ -13,7 +13,8 @@ use Rattle.endings.specs.Answers.{Reply, reply}
 use Rattle.book.specs.declared.types.Book.{Book}
 use Rattle.book.specs.declared.types.Outcome.{Outcome}
 use Rattle.book.specs.Books.{sound, held, owed}
-use Rattle.book.specs.Step.{table, step, fresh}
+use Rattle.book.specs.Refusals.{table}
+use Rattle.book.specs.Step.{step, fresh}
 use Rattle.demands.specs.Runs.{nextBook, replied, Sent, sentTo, after}
 
 pub record Refusal (b next : Book) (answer : Reply) : Type 0 where

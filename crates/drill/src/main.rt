@@ -1,18 +1,31 @@
 // Long deterministic runs of messages through the book's one entry, as docs/DRILL.md writes them down.
 //
-// Standard input has three numbers: how many turns to run, the first turn that has a line, and the turn at which such lines end.
+// Standard input has four numbers: how many turns to run, the first turn that has a line, the turn at which such lines end, and the
+// seed of the first turn.
+mod ask;
+mod changes;
+mod digest;
+mod generator;
+mod points;
+mod questions;
 mod report;
+mod rows;
 mod run;
+mod tally;
+mod trials;
+mod values;
 
+use libc::STDIN_FILENO;
 use lines::numbers::whole;
 
 fn main() {
-    let mut input = [0u8; 64];
-    let read = io::read_full(0, &mut input);
+    let mut input = [0u8; 128];
+    let read = io::read_full(STDIN_FILENO, &mut input);
     let text = &input[..read];
     run::run(run::Plan {
         turns: whole(text, 0),
         from: whole(text, 1),
         to: whole(text, 2),
+        seed: generator::seed_of(whole(text, 3)),
     });
 }

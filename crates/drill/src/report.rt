@@ -1,12 +1,14 @@
 // What the drill prints: a line for a turn, a line for a checkpoint, and the table.
-use asks::Ask;
-use draws::points;
+use crate::ask::Ask;
+use crate::points;
+use crate::rows::Counts;
+use crate::rows::ROWS;
+use crate::tally::Tally;
+use book::Answer;
 use lines::cents;
 use lines::number;
 use lines::print;
 use refusals::pick;
-use tallies::tally::Reply;
-use tallies::tally::Tally;
 
 // All that a message could be made of, whatever it is, and the lengths of the two lists.
 fn asked(ask: Ask, seed: u64) {
@@ -24,15 +26,15 @@ fn asked(ask: Ask, seed: u64) {
     number(points::price_count(seed) as u64);
 }
 
-pub(crate) fn turn(tally: Tally, ask: Ask, reply: Reply) {
+pub(crate) fn turn(tally: Tally, ask: Ask, answer: Answer) {
     print(b"turn");
     number(tally.turn);
     asked(ask, tally.seed);
     print(b" :");
-    number(reply.number);
-    cents(reply.requirement);
-    cents(reply.held);
-    cents(reply.owed);
+    number(answer.number());
+    cents(answer.requirement());
+    cents(answer.held());
+    cents(answer.net_owed());
     number(tally.digest);
     print(b"\n");
 }
@@ -45,9 +47,9 @@ pub(crate) fn named(name: &[u8], first: u64, second: u64) {
 }
 
 // The rows that were met, each with how often; row 0 is none.
-pub(crate) fn table(counts: &[u64; 300]) {
+pub(crate) fn table(counts: &Counts) {
     let mut row: usize = 1;
-    while row < 300 {
+    while row < ROWS {
         let met = counts[row];
         if 0 < met {
             named(b"row", row as u64, met);

@@ -1,20 +1,25 @@
 // A run: turn after turn, each on the book that the last one left.
+use crate::ask;
+use crate::ask::Ask;
+use crate::digest::mix_cents;
+use crate::questions;
 use crate::report;
-use asks::Ask;
+use crate::rows;
+use crate::rows::Counts;
+use crate::rows::ROWS;
+use crate::tally::Tally;
+use crate::trials;
+use crate::values;
+use book::Answer;
 use book::Book;
-use draws::digest::mix_cents;
-use draws::values;
 use refusals::pick;
-use tallies::questions;
-use tallies::rows;
-use tallies::tally::Reply;
-use tallies::tally::Tally;
 
-// How many turns, and which of them have a line.
-pub struct Plan {
-    pub turns: u64,
-    pub from: u64,
-    pub to: u64,
+// How many turns, which of them have a line, and the first one's seed.
+pub(crate) struct Plan {
+    pub(crate) turns: u64,
+    pub(crate) from: u64,
+    pub(crate) to: u64,
+    pub(crate) seed: u64,
 }
 
 struct Step {
@@ -32,18 +37,18 @@ struct Asked {
 
 fn drawn(book: Book, tally: Tally) -> Asked {
     let now = tally.standing();
-    let at = asks::place(tally.seed, tally.open);
+    let at = ask::place(tally.seed, tally.open);
     let r = book.records[at];
     let mut ask = Ask::of(tally.seed, r, now);
     let tight = ask.is_tight(tally.seed, now);
     if tight {
         ask = ask.funding(tally.seed, trials::tried(book, ask, tally.seed));
     }
-    let above = asks::from_place(tally.seed, ask.message) & (r.mwh < ask.quantity);
+    let above = ask::from_place(tally.seed, ask.message) & (r.mwh < ask.quantity);
     Asked { ask, tight, above }
 }
 
-fn beside(book: Book, tally: Tally, counts: &mut [u64; 300], ask: Ask) -> Tally {
+fn beside(book: Book, tally: Tally, counts: &mut Counts, ask: Ask) -> Tally {
     let mut next = tally;
     next.digest = questions::answered(tally.seed, tally.digest, counts);
     if tally.turn % 8 == 7 {
@@ -56,14 +61,14 @@ fn beside(book: Book, tally: Tally, counts: &mut [u64; 300], ask: Ask) -> Tally 
 }
 
 // A line for each turn of the window, and for the last of every 4,096.
-fn print(tally: Tally, plan: Plan, ask: Ask, reply: Reply) {
+fn print(tally: Tally, plan: Plan, ask: Ask, answer: Answer) {
     let within = (plan.from <= tally.turn) & (tally.turn < plan.to);
     if within | (tally.turn % 4_096 == 4_095) {
-        report::turn(tally, ask, reply);
+        report::turn(tally, ask, answer);
     }
 }
 
-fn turn(last: Step, counts: &mut [u64; 300], plan: Plan) -> Step {
+fn turn(last: Step, counts: &mut Counts, plan: Plan) -> Step {
     let book = last.book;
     let tally = last.tally;
     let asked = drawn(book, tally);
@@ -71,47 +76,45 @@ fn turn(last: Step, counts: &mut [u64; 300], plan: Plan) -> Step {
     let before = beside(book, tally, counts, ask);
     let outcome = trials::sent(book, ask, tally.seed);
     let answer = outcome.answer;
-    let reply = trials::replied(answer);
     let next = outcome.book;
     let noted = before.noted(
         counts,
         ask.message,
         ask.key.kind,
-        reply,
-        book.support,
+        answer,
+        book.account.support,
         asked.above,
     );
-    print(noted, plan, ask, reply);
+    print(noted, plan, ask, answer);
     Step {
         book: next,
         tally: noted.turned(asked.tight),
     }
 }
 
-fn begun(tally: Tally, counts: &mut [u64; 300], support: i64) -> Tally {
+fn begun(tally: Tally, counts: &mut Counts, support: i64) -> Tally {
     let outcome = Book::fresh(support);
     let answer = outcome.answer;
-    let reply = trials::replied(answer);
     rows::count(
         counts,
-        pick(reply.number == 0, rows::FRESH, rows::FRESH + 1),
+        pick(answer.number() == 0, rows::FRESH, rows::FRESH + 1),
     );
-    let mut next = tally.answered(reply);
-    next.digest = mix_cents(next.digest, outcome.book.support);
+    let mut next = tally.answered(answer);
+    next.digest = mix_cents(next.digest, outcome.book.account.support);
     next
 }
 
 // A fresh book of each support that is at a limit or one past it; the run goes on with the last.
-fn start(counts: &mut [u64; 300]) -> Tally {
-    let below = begun(Tally::new(), counts, -1);
+fn start(counts: &mut Counts, seed: u64) -> Tally {
+    let below = begun(Tally::new(seed), counts, -1);
     let least = begun(below, counts, 0);
     let past = begun(least, counts, 1_000_000_000_000_001);
     begun(past, counts, values::MOST_SUPPORT)
 }
 
 pub(crate) fn run(plan: Plan) {
-    let mut counts = [0u64; 300];
-    let tally = start(&mut counts);
+    let mut counts = [0u64; ROWS];
+    let tally = start(&mut counts, plan.seed);
     let book = Book::fresh(values::MOST_SUPPORT).book;
     let mut step = Step { book, tally };
     let mut left = plan.turns;

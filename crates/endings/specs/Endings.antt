@@ -1,15 +1,15 @@
--- How a message ends, over what it sees of a book and nothing more; crate `book`, proofs/Written.antt, shows that it is the step. Nothing here is the paper's.
+-- For the code's own steps alone: how a message ends, over what it sees of a book and nothing more. Nothing here is the paper's: crate `book`, proofs/Written.antt, shows that it is the step.
 -- Assumes nothing.
 use mathlib.Core.Path.{_≡_}
 use mathlib.Core.Bool.{true, _&&_, cond}
 use mathlib.Core.List.{List}
 use Prim.Native.Nat.{ℕ}
 use lib.Dec.{eqb}
-use lib.IntN.{ℤ, pos, _+ℤ_, _-ℤ_}
+use lib.IntN.{ℤ, pos}
 use Rattle.amounts.specs.Amount.{Within}
 use Rattle.amounts.specs.Limits.{isSupport}
 use Rattle.distinct.specs.Numbers.{allDistinct}
-use Rattle.refusals.specs.Refusals.{Verdict, refuse, accept}
+use Rattle.refusals.specs.Refusals.{Verdict, refuse, accept, judge}
 use Rattle.messages.specs.declared.types.Change.the-variants.{Add, Rebid, Advance, Remove}
 use Rattle.messages.specs.declared.types.Deed.{Deed}
 use Rattle.messages.specs.declared.types.Deed.the-variants.{Keyed, SetSupport}
@@ -18,25 +18,36 @@ use Rattle.messages.specs.declared.types.Planned.the-variants.{Refused as Turne
 use Rattle.records.specs.declared.types.Record.{Record}
 use Rattle.records.specs.Records.{blank, okPlace}
 use Rattle.walk.specs.declared.types.Walk.{Walk}
-use Rattle.credit.specs.Weights.{owes}
-use Rattle.credit.specs.Bounds.{TotalsBounded}
-use Rattle.credit.specs.Credit.{pass}
+use Rattle.credit.specs.declared.types.Totals.{Totals}
+use Rattle.credit.specs.declared.types.Account.{Account}
+use Rattle.credit.specs.declared.types.Sums.{Sums}
+use Rattle.credit.specs.Account.{supported}
+use Rattle.credit.specs.Credit.{creditRows}
+use Rattle.credit.specs.Sums.{withRecord, withoutRecord, heldOf}
+use Rattle.credit.specs.NoOverflow.{SumsWithin}
 use Rattle.endings.specs.Answers.{Answer, Accepted, Refused}
 pub use Rattle.endings.specs.declared.types.View.{View}
 pub use Rattle.endings.specs.declared.types.Ending.{Ending}
 
--- what a walk that has passed every place gives of a book: its keys' numbers stand apart, and so on
-abbrev pub viewOf : Walk → ℤ → List ℕ → Record → View
-viewOf s support codes old =
+-- ---- what a message sees
+
+-- once a walk has passed every place: the keys' numbers stand apart, and so on
+abbrev pub viewOf : Walk → Account → List ℕ → Record → View
+viewOf s account codes old =
     record {
-      sound = s .ranged && isSupport support && allDistinct codes;
-      totals = record { support = support; held = s .held; owed = s .owed; full = eqb (s .free) 256 };
+      sound = s .ranged && isSupport (account .support) && allDistinct codes;
+      account = account;
+      sums = s .sums;
       free = s .free;
       at = s .at;
       old = old;
     }
 
--- ---- what the code's own steps ask of the numbers that they add, so that no sum leaves an i64; no public function asks it
+-- what refusals 14 to 16 see of it
+abbrev pub totalsOf : View → Totals
+totalsOf s = record { support = s .account .support; held = heldOf (s .sums .unbilled) (s .sums .owed); owed = s .sums .owed; full = eqb (s .free) 256 }
+
+-- ---- that no sum leaves an i64; no function of `Book` asks it
 
 -- the requirements that a deed brings
 abbrev pub DeedSound : Deed → Type 0
@@ -46,37 +57,54 @@ DeedSound (Keyed (Advance r)) = okPlace r ≡ true
 DeedSound (Keyed (Remove k)) = Unit {0}
 DeedSound (SetSupport support) = Unit {0}
 
-pub record Ready (s : View) (d : Deed) : Type 0 where
-  pub small : TotalsBounded (s .totals)
+abbrev pub PlanSound : Planned → Type 0
+PlanSound (Turned n) = Unit {0}
+PlanSound (Asks d) = DeedSound d
+
+-- all that an ending adds up is in range
+pub record Summable (s : View) (p : Planned) : Type 0 where
+  pub sums : SumsWithin 332800000000000 (s .sums)
   pub old : okPlace (s .old) ≡ true
-  pub fair : DeedSound d
+  pub plan : PlanSound p
 
-abbrev pub Apt : View → Planned → Type 0
-Apt s (Turned n) = Unit {0}
-Apt s (Asks d) = s .sound ≡ true → Ready s d
+-- ---- the verdict
 
--- the verdict of a plan
 abbrev pub asVerdict : Planned → Verdict Deed
 asVerdict (Turned n) = refuse n
 asVerdict (Asks d) = accept d
 
+unfoldable pub creditVerdict : Totals → Deed → Verdict Deed
+creditVerdict t d = judge (creditRows t d) d
+
+-- 2 to 13 first: 14 to 16 are asked where those have passed
+unfoldable pub pass : Totals → Verdict Deed → Verdict Deed
+pass t (refuse n) = refuse n
+pass t (accept d) = creditVerdict t d
+
 -- ---- the ways in which a message ends; at 256 nothing is written
 
-abbrev pub unwritten : Answer → ℤ → Ending
-unwritten answer support = record { answer = answer; support = support; place = 256; new = blank }
+-- held and net owed of these sums are answered
+abbrev pub accepting : ℤ → Sums → Answer
+accepting requirement t = Accepted requirement (heldOf (t .unbilled) (t .owed)) (t .owed)
+
+abbrev pub refusing : ℕ → Sums → Answer
+refusing number t = Refused number (heldOf (t .unbilled) (t .owed)) (t .owed)
+
+abbrev pub unwritten : Answer → Account → Ending
+unwritten answer account = record { answer = answer; account = account; place = 256; new = blank }
 
 unfoldable pub unsound : View → Ending
-unsound s = unwritten (Refused 1 (pos 0) (pos 0)) (s .totals .support)
+unsound s = unwritten (Refused 1 (pos 0) (pos 0)) (s .account)
 
 unfoldable pub turnedAway : View → ℕ → Ending
-turnedAway s n = unwritten (Refused n (s .totals .held) (s .totals .owed)) (s .totals .support)
+turnedAway s n = unwritten (refusing n (s .sums)) (s .account)
 
 -- a record in another's stead
 unfoldable pub putIn : View → ℕ → Record → Record → Ending
 putIn s place was new =
     record {
-      answer = Accepted (new .requirement) ((s .totals .held -ℤ was .requirement) +ℤ new .requirement) ((s .totals .owed -ℤ owes was) +ℤ owes new);
-      support = s .totals .support;
+      answer = accepting (new .requirement) (withRecord (withoutRecord (s .sums) was) new);
+      account = s .account;
       place = place;
       new = new;
     }
@@ -86,11 +114,11 @@ carriedOut s (Keyed (Add r)) = putIn s (s .free) blank r
 carriedOut s (Keyed (Rebid was r)) = putIn s (s .at) (s .old) r
 carriedOut s (Keyed (Advance r)) = putIn s (s .at) (s .old) r
 carriedOut s (Keyed (Remove k)) = putIn s (s .at) (s .old) blank
-carriedOut s (SetSupport support) = unwritten (Accepted (pos 0) (s .totals .held) (s .totals .owed)) support
+carriedOut s (SetSupport support) = unwritten (accepting (pos 0) (s .sums)) (supported (s .account) support)
 
 unfoldable pub endingOf : View → Verdict Deed → Ending
 endingOf s (refuse n) = turnedAway s n
 endingOf s (accept d) = carriedOut s d
 
 unfoldable pub ended : View → Verdict Deed → Ending
-ended s v = cond (s .sound) (endingOf s (pass (s .totals) v)) (unsound s)
+ended s v = cond (s .sound) (endingOf s (pass (totalsOf s) v)) (unsound s)

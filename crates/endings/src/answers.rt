@@ -1,8 +1,10 @@
-// What is read off an answer, whichever case it is.
+// What is read off an answer, whichever case it is; and an answer with a book's sums.
 ghost use mathlib.Core.Path.{_≡_};
-ghost use lib.Dec.{eqb};
+ghost use Rattle.credit.specs.NoOverflow.{SumsWithin};
 ghost use Rattle.endings.specs.Answers.{reply};
+ghost use Rattle.endings.specs.Endings.{accepting, refusing};
 use crate::types::Answer;
+use credit::types::Sums;
 
 impl Answer {
     // The refusal's number; 0 is acceptance.
@@ -43,13 +45,25 @@ impl Answer {
         }
     }
 
-    // Refusal 1.
-    pub fn is_unsound(self) -> bool
-        ensures { λ r. ⌜ r ≡ eqb (reply self .number) 1 ⌝ }
+    pub(crate) fn accepting(requirement: i64, sums: Sums) -> Answer
+        requires { ⌜ SumsWithin 400000000000000 sums ⌝ }
+        ensures { λ a. ⌜ a ≡ accepting requirement sums ⌝ }
     {
-        match self {
-            Answer::Accepted { .. } => false,
-            Answer::Refused { number, .. } => number == 1,
+        Answer::Accepted {
+            requirement,
+            held: sums.held(),
+            owed: sums.owed,
+        }
+    }
+
+    pub(crate) fn refusing(number: u64, sums: Sums) -> Answer
+        requires { ⌜ SumsWithin 400000000000000 sums ⌝ }
+        ensures { λ a. ⌜ a ≡ refusing number sums ⌝ }
+    {
+        Answer::Refused {
+            number,
+            held: sums.held(),
+            owed: sums.owed,
         }
     }
 }

@@ -2,14 +2,13 @@
 ghost use mathlib.Core.Path.{_≡_};
 ghost use mathlib.Core.Bool.{true};
 ghost use Rattle.records.specs.Records.{okPlace};
-ghost use Rattle.credit.specs.Bounds.{TotalsBounded};
-ghost use Rattle.credit.specs.Credit.{creditVerdict};
-ghost use Rattle.endings.specs.Endings.{Ready, Apt, asVerdict, viewOf, unwritten, turnedAway, unsound, putIn, carriedOut, endingOf, ended};
+ghost use Rattle.credit.specs.NoOverflow.{SumsWithin};
+ghost use Rattle.endings.specs.Endings.{Summable, asVerdict, viewOf, totalsOf, creditVerdict, unwritten, turnedAway, unsound, putIn, carriedOut, endingOf, ended};
 use crate::types::Answer;
 use crate::types::Ending;
 use crate::types::View;
 use amounts::Amount;
-use credit::owes;
+use credit::types::Account;
 use credit::types::Totals;
 use messages::types::Change;
 use messages::types::Deed;
@@ -18,14 +17,14 @@ use records::types::Record;
 use walk::types::Walk;
 
 impl Ending {
-    // Nothing but the support is written.
-    fn unwritten(answer: Answer, support: i64) -> Ending
-        ensures { λ e. ⌜ e ≡ unwritten answer support ⌝ }
+    // The ending that writes no record.
+    fn unwritten(answer: Answer, account: Account) -> Ending
+        ensures { λ e. ⌜ e ≡ unwritten answer account ⌝ }
     {
         let new = Record::blank();
         Ending {
             answer,
-            support,
+            account,
             place: Walk::NOWHERE,
             new,
         }
@@ -33,59 +32,66 @@ impl Ending {
 }
 
 impl View {
-    // What is seen of a book of this support, once the walk has passed every place.
-    pub fn of(walk: Walk, support: i64, codes: &[u64; 256], old: Record) -> View
-        ensures { λ s. ⌜ s ≡ viewOf walk support (now (codes .entry)) old ⌝ }
+    // What is seen of a book that keeps this account, once the walk has passed every place.
+    pub fn of(walk: Walk, account: Account, codes: &[u64; 256], old: Record) -> View
+        ensures { λ s. ⌜ s ≡ viewOf walk account (now (codes .entry)) old ⌝ }
     {
-        let amount = Amount { cents: support };
+        let amount = Amount {
+            cents: account.support,
+        };
+        let sums = walk.sums;
         View {
             sound: walk.ranged & amount.is_support() & distinct::all_distinct(codes),
-            totals: Totals {
-                support,
-                held: walk.held,
-                owed: walk.owed,
-                full: walk.free == Walk::NOWHERE,
-            },
+            account,
+            sums,
             free: walk.free,
             at: walk.at,
             old,
         }
     }
 
-    fn refused(self, number: u64) -> Ending
-        ensures { λ e. ⌜ e ≡ turnedAway self number ⌝ }
+    fn totals(self) -> Totals
+        requires { ⌜ SumsWithin 332800000000000 (self .sums) ⌝ }
+        ensures { λ t. ⌜ t ≡ totalsOf self ⌝ }
     {
-        let totals = self.totals;
-        let answer = Answer::Refused {
-            number,
-            held: totals.held,
-            owed: totals.owed,
-        };
-        Ending::unwritten(answer, totals.support)
+        let account = self.account;
+        let sums = self.sums;
+        Totals {
+            support: account.support,
+            held: sums.held(),
+            owed: sums.owed,
+            full: self.free == Walk::NOWHERE,
+        }
     }
 
-    // A record in another's stead. The sums are those before, less what the old one weighs, and what the new one weighs.
+    fn refused(self, number: u64) -> Ending
+        requires { ⌜ SumsWithin 332800000000000 (self .sums) ⌝ }
+        ensures { λ e. ⌜ e ≡ turnedAway self number ⌝ }
+    {
+        let account = self.account;
+        Ending::unwritten(Answer::refusing(number, self.sums), account)
+    }
+
+    // A record in another's stead.
     fn put(self, place: u64, was: Record, new: Record) -> Ending
-        requires { ⌜ TotalsBounded (self .totals) ⌝ }
+        requires { ⌜ SumsWithin 332800000000000 (self .sums) ⌝ }
         requires { ⌜ okPlace was ≡ true ⌝ }
         requires { ⌜ okPlace new ≡ true ⌝ }
         ensures { λ e. ⌜ e ≡ putIn self place was new ⌝ }
     {
-        let totals = self.totals;
+        let account = self.account;
+        let sums = self.sums;
+        let next = sums.without(was).with(new);
         Ending {
-            answer: Answer::Accepted {
-                requirement: new.requirement,
-                held: totals.held - was.requirement + new.requirement,
-                owed: totals.owed - owes(was) + owes(new),
-            },
-            support: totals.support,
+            answer: Answer::accepting(new.requirement, next),
+            account,
             place,
             new,
         }
     }
 
     fn changed(self, change: Change) -> Ending
-        requires { ⌜ Ready self (Deed.Keyed change) ⌝ }
+        requires { ⌜ Summable self (Planned.Asks (Deed.Keyed change)) ⌝ }
         ensures { λ e. ⌜ e ≡ carriedOut self (Deed.Keyed change) ⌝ }
     {
         match change {
@@ -97,23 +103,18 @@ impl View {
     }
 
     fn funded(self, support: i64) -> Ending
+        requires { ⌜ SumsWithin 332800000000000 (self .sums) ⌝ }
         ensures { λ e. ⌜ e ≡ carriedOut self (Deed.SetSupport support) ⌝ }
     {
-        let totals = self.totals;
-        let answer = Answer::Accepted {
-            requirement: 0,
-            held: totals.held,
-            owed: totals.owed,
-        };
-        Ending::unwritten(answer, support)
+        let account = self.account;
+        Ending::unwritten(Answer::accepting(0, self.sums), account.supported(support))
     }
 
     fn carried(self, deed: Deed) -> Ending
-        requires { ⌜ Ready self deed ⌝ }
-        ensures { λ e. ⌜ e ≡ endingOf self (creditVerdict (self .totals) deed) ⌝ }
+        requires { ⌜ Summable self (Planned.Asks deed) ⌝ }
+        ensures { λ e. ⌜ e ≡ endingOf self (creditVerdict (totalsOf self) deed) ⌝ }
     {
-        let totals = self.totals;
-        let number = totals.refusal(deed);
+        let number = self.totals().refusal(deed);
         if !(number == 0) {
             return self.refused(number);
         }
@@ -126,17 +127,17 @@ impl View {
     fn not_sound(self) -> Ending
         ensures { λ e. ⌜ e ≡ unsound self ⌝ }
     {
-        let totals = self.totals;
+        let account = self.account;
         let answer = Answer::Refused {
             number: 1,
             held: 0,
             owed: 0,
         };
-        Ending::unwritten(answer, totals.support)
+        Ending::unwritten(answer, account)
     }
 
     pub fn ending(self, plan: Planned) -> Ending
-        requires { ⌜ Apt self plan ⌝ }
+        requires { ⌜ (self .sound ≡ true → Summable self plan) ⌝ }
         ensures { λ e. ⌜ e ≡ ended self (asVerdict plan) ⌝ }
     {
         if !self.sound {

@@ -1,11 +1,13 @@
 // What a message sees of a book, how it ends, and what it answers.
-use credit::types::Totals;
+use credit::types::Account;
+use credit::types::Sums;
 use records::types::Record;
 
 // All that a message sees of a book.
 pub struct View {
     pub sound: bool,
-    pub totals: Totals,
+    pub account: Account,
+    pub sums: Sums,
     // The lowest free place, and the place of the message's key; 256 where there is none.
     pub free: u64,
     pub at: u64,
@@ -13,10 +15,10 @@ pub struct View {
     pub old: Record,
 }
 
-// All that is left to write: a record at a place (at 256, none), the support, and the answer.
+// All that is left to write: a record at a place (at 256, none), and what is kept beside the places; and the answer.
 pub struct Ending {
     pub answer: Answer,
-    pub support: i64,
+    pub account: Account,
     pub place: u64,
     pub new: Record,
 }

@@ -7,9 +7,9 @@ fn main() {
     // An empty book. The support is in cents; one that is out of range is refusal 9.
     let start = Book::fresh(1_000_000_000);
 
-    // Kinds: 1 import, 2 export, 3 Hour-Ahead export, 4 wheel through.
+    // A transaction is known by its kind, its path and its hour.
     let key = Key {
-        kind: 1,
+        kind: Kind::IMPORT,
         path: 7,
         hour: 4_512,
     };

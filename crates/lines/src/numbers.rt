@@ -1,104 +1,120 @@
 // The numbers of a line. The words between them are for whoever reads it, and a number that a line lacks is 0.
-
-// A number as far as it is read, and how many stand before it.
-struct Number {
-    before: u64,
-    begun: bool,
-    negative: bool,
-    magnitude: u64,
-}
-
-const NO_DIGIT: u64 = 10;
+ghost use mathlib.Core.Bool.{true};
+ghost use mathlib.Core.Path.{_≡_};
+ghost use Prim.Native.Nat.{_<_};
+ghost use lib.ListN.{length, drop};
+ghost use Rattle.amounts.specs.Lists.{bit};
+ghost use Rattle.lines.specs.Numbers.{isDigit, longer, read, begins, countOf, numberOf, wholeOf, withSign, signedOf};
 
 const MOST: u64 = 1_000_000_000_000_000_000;
 
-fn digit(byte: u8) -> u64 {
-    if byte < b'0' {
-        NO_DIGIT
-    } else if byte > b'9' {
-        NO_DIGIT
-    } else {
-        (byte - b'0') as u64
-    }
+fn is_digit(byte: u8) -> bool
+    ensures { λ r. ⌜ r ≡ isDigit byte ⌝ }
+{
+    (b'0' <= byte) & (byte <= b'9')
 }
 
 // One digit more; past the most, a number stays as it is.
-fn longer(magnitude: u64, digit: u64) -> u64 {
-    if digit < NO_DIGIT {
-        if magnitude < MOST {
-            return magnitude * 10 + digit;
+fn longer(magnitude: u64, digit: u8) -> u64
+    requires { ⌜ isDigit digit ≡ true ⌝ }
+    ensures { λ r. ⌜ r ≡ longer magnitude digit ⌝ }
+{
+    if magnitude < MOST {
+        magnitude * 10 + (digit - b'0') as u64
+    } else {
+        magnitude
+    }
+}
+
+// The digits from a place on.
+fn magnitude(text: &[u8], from: usize) -> u64
+    ensures { λ r. ⌜ r ≡ read 0 (drop from (now (text .entry))) ⌝ }
+{
+    let mut magnitude: u64 = 0;
+    let mut i = from;
+    while i < text.len() {
+        let byte = text[i];
+        if is_digit(byte) {
+            magnitude = longer(magnitude, byte);
+        } else {
+            return magnitude;
         }
+        i += 1;
     }
     magnitude
 }
 
-impl Number {
-    // How many numbers stand before the next one.
-    fn counted(self) -> u64 {
-        let before = self.before;
-        if self.begun {
-            if before < MOST {
-                return before + 1;
-            }
-        }
-        before
-    }
-
-    fn then(self, byte: u8) -> Number {
-        let digit = digit(byte);
-        if digit < NO_DIGIT {
-            Number {
-                before: self.before,
-                begun: true,
-                negative: self.negative,
-                magnitude: longer(self.magnitude, digit),
-            }
-        } else {
-            Number {
-                before: self.counted(),
-                begun: false,
-                negative: byte == b'-',
-                magnitude: 0,
-            }
-        }
-    }
+// A number begins at a digit that follows no other.
+fn begins(last: u8, byte: u8) -> bool
+    ensures { λ r. ⌜ r ≡ begins last byte ⌝ }
+{
+    is_digit(byte) & !is_digit(last)
 }
 
-// The number with n before it, or where the line ends.
-fn read(text: &[u8], n: u64) -> Number {
-    let mut number = Number {
-        before: 0,
-        begun: false,
-        negative: false,
-        magnitude: 0,
-    };
+// How many numbers begin at a byte: one or none.
+fn begun(last: u8, byte: u8) -> u64
+    ensures { λ r. ⌜ r ≡ bit (begins last byte) ⌝ }
+{
+    if begins(last, byte) { 1 } else { 0 }
+}
+
+// Where a number begins, and whether it is below 0.
+struct Place {
+    at: usize,
+    negative: bool,
+}
+
+// The place of the number with n before it; where the line lacks it, the line's end.
+fn find(text: &[u8], n: u64) -> Place
+    ensures { λ r. ⌜ numberOf (now (text .entry)) n ≡ record { negative = r .negative; magnitude = read 0 (drop (r .at) (now (text .entry))) } ⌝ }
+{
+    let mut left = n;
+    let mut last = b' ';
     let mut i: usize = 0;
     while i < text.len() {
-        let next = number.then(text[i]);
-        if n < next.before {
-            return number;
+        let byte = text[i];
+        let begun = begun(last, byte);
+        if left < begun {
+            return Place {
+                at: i,
+                negative: last == b'-',
+            };
         }
-        number = next;
+        left -= begun;
+        last = byte;
         i += 1;
     }
-    number
+    Place {
+        at: i,
+        negative: false,
+    }
 }
 
-pub fn count(text: &[u8]) -> u64 {
-    read(text, MOST).counted()
+pub fn count(text: &[u8]) -> u64
+    ensures { λ r. ⌜ r ≡ countOf (now (text .entry)) ⌝ }
+{
+    let mut count: u64 = 0;
+    let mut last = b' ';
+    let mut i: usize = 0;
+    while i < text.len() {
+        let byte = text[i];
+        count += begun(last, byte);
+        last = byte;
+        i += 1;
+    }
+    count
 }
 
 // Without its sign.
-pub fn whole(text: &[u8], n: u64) -> u64 {
-    let number = read(text, n);
-    if number.before == n {
-        number.magnitude
-    } else {
-        0
-    }
+pub fn whole(text: &[u8], n: u64) -> u64
+    ensures { λ r. ⌜ r ≡ wholeOf (now (text .entry)) n ⌝ }
+{
+    magnitude(text, find(text, n).at)
 }
 
-fn with_sign(negative: bool, magnitude: u64) -> i64 {
+fn with_sign(negative: bool, magnitude: u64) -> i64
+    ensures { λ r. ⌜ r ≡ withSign negative magnitude ⌝ }
+{
     if magnitude <= MOST {
         let cents = magnitude as i64;
         if negative { -cents } else { cents }
@@ -107,6 +123,10 @@ fn with_sign(negative: bool, magnitude: u64) -> i64 {
     }
 }
 
-pub fn signed(text: &[u8], n: u64) -> i64 {
-    with_sign(read(text, n).negative, whole(text, n))
+// With its sign; past the most, 0.
+pub fn signed(text: &[u8], n: u64) -> i64
+    ensures { λ r. ⌜ r ≡ signedOf (now (text .entry)) n ⌝ }
+{
+    let place = find(text, n);
+    with_sign(place.negative, magnitude(text, place.at))
 }

@@ -1,4 +1,4 @@
--- For the test of distinct keys alone: a key as one number. On keys in range it is one to one, and 0 is that of a free place.
+-- For the code's own steps alone, the test of distinct keys: a key as one number. On keys in range it is one to one, and 0 is that of a free place.
 -- Assumes nothing.
 use mathlib.Core.Bool.{cond}
 use Prim.Native.Nat.{ℕ, _+_, _*_, _%_}

@@ -3,9 +3,10 @@ ghost use mathlib.Core.Path.{_≡_};
 ghost use mathlib.Core.Bool.{cond};
 ghost use lib.Dec.{ltb};
 ghost use Rattle.records.specs.Records.{blank};
-ghost use Rattle.walk.specs.Walk.{nothing, more, SumsBounded};
+ghost use Rattle.credit.specs.NoOverflow.{SumsWithin};
+ghost use Rattle.walk.specs.Walk.{nothing, more};
 use crate::types::Walk;
-use credit::owes;
+use credit::types::Sums;
 use records::types::Key;
 use records::types::Record;
 use refusals::pick;
@@ -16,8 +17,7 @@ impl Walk {
     {
         Walk {
             ranged: true,
-            held: 0,
-            owed: 0,
+            sums: Sums::none(),
             free: Walk::NOWHERE,
             at: Walk::NOWHERE,
         }
@@ -25,31 +25,29 @@ impl Walk {
 
     // One place more, before those that were passed.
     pub fn with(self, r: Record, key: Key, place: u64) -> Walk
-        requires { ⌜ SumsBounded self ⌝ }
+        requires { ⌜ SumsWithin 400000000000000 (self .sums) ⌝ }
         ensures { λ s. ⌜ s ≡ more self r key place ⌝ }
     {
         if !(self.ranged & r.is_sound()) {
             return Walk {
                 ranged: false,
-                held: 0,
-                owed: 0,
+                sums: Sums::none(),
                 free: 0,
                 at: 0,
             };
         }
+        let sums = self.sums;
         if r.is_free() {
             return Walk {
                 ranged: true,
-                held: self.held,
-                owed: self.owed,
+                sums,
                 free: place,
                 at: self.at,
             };
         }
         Walk {
             ranged: true,
-            held: self.held + r.requirement,
-            owed: self.owed + owes(r),
+            sums: sums.with(r),
             free: self.free,
             at: pick(r.is_at(key), place, self.at),
         }

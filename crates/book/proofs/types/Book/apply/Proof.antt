@@ -5,12 +5,8 @@ use mathlib.Core.Path.{_≡_, refl, sym, ap, _∙_, subst}
 use mathlib.Core.Bool.{true, _&&_}
 use mathlib.Core.List.{List}
 use lib.IntN.{ℤ}
-use borrow.Author.Needs.{needs}
 use lib.ListN.{length, getD, set, length-map}
 use lib.Seq.{set-out}
-use mir.Syntax.{w64}
-use mir.Val.{SFits}
-use mir.Facts.{toZ-ofZ}
 use Rattle.amounts.specs.Limits.{isSupport}
 use Rattle.distinct.specs.Numbers.{allDistinct}
 use Rattle.refusals.proofs.Laws.{and-left}
@@ -19,15 +15,16 @@ use Rattle.records.specs.declared.types.Record.{Record}
 use Rattle.records.specs.Records.{blank, at}
 use Rattle.messages.specs.declared.types.Message.{Message}
 use Rattle.messages.specs.Plan.{keyOf, plan, planned}
-use Rattle.book.specs.Places.{index}
 use Rattle.book.specs.Books.{Book, lookup, sound}
-use Rattle.book.specs.Step.{step}
+use Rattle.book.specs.Step.{rebook, step}
 use Rattle.endings.specs.declared.types.View.{View}
-use Rattle.endings.specs.Endings.{viewOf, Apt, asVerdict, ended}
+use Rattle.endings.specs.Endings.{viewOf, Summable, asVerdict, ended}
 use Rattle.walk.specs.declared.types.Walk.{Walk}
+use Rattle.credit.proofs.Parts.{sums-wider}
+use Rattle.book.proofs.Passed.{index}
 use Rattle.book.proofs.Codes.{sound-by}
 use Rattle.book.proofs.Walked.{Walked, begun, walked-more, all-ranged, all-coded, free-is, place-is, summed, looked-up}
-use Rattle.book.proofs.Written.{Sees, written, ends, apt}
+use Rattle.book.proofs.Written.{Sees, written, ends, summable}
 use Rattle.book.proofs.types.Book.apply.Statement.{statement}
 use Rattle.book.proofs.types.Book.apply.Tie as tie
 
@@ -68,7 +65,7 @@ array-write-codes : tie.Need-array-write-codes Inv-loop μ-loop
 array-write-codes c = omega (arith, c .before .before .before .loop .inv .within)
 
 with-requires : tie.Need-with-requires Inv-loop μ-loop
-with-requires c κs = c .before .before .before .loop .inv .light
+with-requires c κs = let l = c .before .before .before .loop in sums-wider (l .walk .sums) (l .inv .light) (omega arith)
 
 loop-less : tie.Need-loop-less Inv-loop μ-loop
 loop-less c = omega arith
@@ -127,15 +124,13 @@ module _ (c : tie.After-plan-of Inv-loop μ-loop) where
   walk = passed .before .loop .walk
 
   abbrev view : View
-  view = viewOf walk (b .support) codes (c .before .before .before .before .old .result)
+  view = viewOf walk (b .account) codes (c .before .before .before .before .old .result)
 
   few : length (b .records) ≡ 256
   few = size g
 
   view-so : c .before .of .result ≡ view
-  view-so =
-      let h : SFits w64 (b .support) = search needs in
-      c .before .of .ensures ∙ ap (λ (z : ℤ). viewOf walk z codes (c .before .before .before .before .old .result)) (toZ-ofZ h)
+  view-so = c .before .of .ensures
 
   walked : Walked key (b .records) codes walk 0
   walked =
@@ -148,7 +143,7 @@ module _ (c : tie.After-plan-of Inv-loop μ-loop) where
   sees : sound b ≡ true → Sees b (keyOf m) view
   sees h =
       let rs = b .records in
-      let ranged = and-left (walk .ranged) (isSupport (b .support)) (and-left (walk .ranged && isSupport (b .support)) (allDistinct codes) (sound-so ∙ h)) in
+      let ranged = and-left (walk .ranged) (isSupport (b .account .support)) (and-left (walk .ranged && isSupport (b .account .support)) (allDistinct codes) (sound-so ∙ h)) in
       record {
         sums = summed b key codes walk few walked ranged;
         lowest = free-is b key codes walk few walked ranged;
@@ -162,14 +157,14 @@ module _ (c : tie.After-plan-of Inv-loop μ-loop) where
   planned-so : sound b ≡ true → c .plan-of .result ≡ planned (plan (lookup b (keyOf m)) m ms ps)
   planned-so h = c .plan-of .ensures ∙ ap (λ (old : Record). planned (plan old m ms ps)) (sees h .under)
 
-  apt-so : Apt (c .before .of .result) (c .plan-of .result)
-  apt-so = subst (λ (s : View). Apt s (c .plan-of .result)) (sym view-so) (apt b m ms ps view few refl sound-so sees (c .plan-of .result) planned-so)
+  summable-so : c .before .of .result .sound ≡ true → Summable (c .before .of .result) (c .plan-of .result)
+  summable-so = subst (λ (s : View). s .sound ≡ true → Summable s (c .plan-of .result)) (sym view-so) (summable b m ms ps view few refl sound-so sees (c .plan-of .result) planned-so)
 
   ends-so : written b (ended (c .before .of .result) (asVerdict (c .plan-of .result))) ≡ step b m ms ps
   ends-so = ap (λ (s : View). written b (ended s (asVerdict (c .plan-of .result)))) view-so ∙ ends b m ms ps view few refl sound-so sees (c .plan-of .result) planned-so
 
 ending-requires : tie.Need-ending-requires Inv-loop μ-loop
-ending-requires c κs = apt-so c
+ending-requires c κs = summable-so c
 
 mul-new : tie.Need-mul-new Inv-loop μ-loop
 mul-new c = omega (arith, c .if1 .taken)
@@ -181,18 +176,15 @@ returns : tie.Need-returns Inv-loop μ-loop
 returns c =
     let e = c .before .before .before .ending in
     let b = c .before .before .before .before .before .before .before .before .before .before .before .before .before .before .before .args .self in
-    let h : SFits w64 (e .result .support) = search needs in
-    (λ i. record { book = record { records = set (b .records) (e .result .place) (e .result .new); support = toZ-ofZ h i }; answer = e .result .answer })
-    ∙ ap (written b) (e .ensures)
+    ap (written b) (e .ensures)
     ∙ ends-so (c .before .before .before .before)
 
 returns-2 : tie.Need-returns-2 Inv-loop μ-loop
 returns-2 c =
     let e = c .before .before .before .ending in
     let b = c .before .before .before .before .before .before .before .before .before .before .before .before .before .before .before .args .self in
-    let h : SFits w64 (e .result .support) = search needs in
     let past : length (b .records) ≤ e .result .place = omega (arith, size (c .before .before .before .before .before .before .before .before .before .before .before .before .before .before .before), c .if1 .left) in
-    (λ i. record { book = record { records = sym (set-out (b .records) (e .result .place) (e .result .new) past) i; support = toZ-ofZ h i }; answer = e .result .answer })
+    (λ i. record { book = rebook b (e .result .account) (sym (set-out (b .records) (e .result .place) (e .result .new) past) i); answer = e .result .answer })
     ∙ ap (written b) (e .ensures)
     ∙ ends-so (c .before .before .before .before)
 

@@ -3,6 +3,7 @@ use mathlib.Core.Path.{_∙_, ap}
 use Rattle.amounts.proofs.Steps.{back}
 use Rattle.endings.specs.declared.types.Answer.{Answer}
 use Rattle.endings.specs.Answers.{reply}
+use Rattle.book.proofs.Shown.{held-shown}
 use Rattle.book.proofs.types.Book.held.Statement.{statement}
 use Rattle.book.proofs.types.Book.held.Tie as tie
 
@@ -13,7 +14,7 @@ held-requires : tie.Need-held-requires
 held-requires c κs = tt
 
 returns : tie.Need-returns
-returns c = back (c .held .result) (c .held .ok) ∙ c .held .ensures ∙ ap (λ (x : Answer). reply x .held) (c .before .status .ensures)
+returns c = back (c .held .result) (c .held .ok) ∙ c .held .ensures ∙ ap (λ (x : Answer). reply x .held) (c .before .status .ensures) ∙ held-shown (c .before .before .args .self)
 
 pub held-spec : {M : Type 1} → statement M
 held-spec = tie.close (tie.spec status-requires held-requires returns)

@@ -3,6 +3,7 @@ use mathlib.Core.Path.{_∙_, ap}
 use Rattle.amounts.proofs.Steps.{back}
 use Rattle.endings.specs.declared.types.Answer.{Answer}
 use Rattle.endings.specs.Answers.{reply}
+use Rattle.book.proofs.Shown.{owed-shown}
 use Rattle.book.proofs.types.Book.net_owed.Statement.{statement}
 use Rattle.book.proofs.types.Book.net_owed.Tie as tie
 
@@ -13,7 +14,7 @@ net-owed-requires : tie.Need-net-owed-requires
 net-owed-requires c κs = tt
 
 returns : tie.Need-returns
-returns c = back (c .net-owed .result) (c .net-owed .ok) ∙ c .net-owed .ensures ∙ ap (λ (x : Answer). reply x .owed) (c .before .status .ensures)
+returns c = back (c .net-owed .result) (c .net-owed .ok) ∙ c .net-owed .ensures ∙ ap (λ (x : Answer). reply x .owed) (c .before .status .ensures) ∙ owed-shown (c .before .before .args .self)
 
 pub net-owed-spec : {M : Type 1} → statement M
 net-owed-spec = tie.close (tie.spec status-requires net-owed-requires returns)

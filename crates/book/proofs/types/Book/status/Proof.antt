@@ -1,4 +1,4 @@
--- `Book::asked`: a support below 0 is refused by every book.
+-- `Book::status`: a support below 0 is refused by every book.
 use mathlib.Core.Path.{_∙_, ap}
 use Rattle.book.specs.Step.{Outcome}
 use Rattle.book.proofs.Shown.{always-refused}

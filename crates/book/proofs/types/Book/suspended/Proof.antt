@@ -2,17 +2,18 @@
 use borrow.Author.Needs.{needs}
 use mathlib.Core.Path.{_≡_, _∙_, sym, ap, subst}
 use mathlib.Core.Bool.{false, _||_}
+use Prim.Native.Nat.{ℕ}
 use lib.Dec.{eqb}
 use lib.ListN.{length, length-map}
 use mir.Syntax.{w64}
 use mir.Val.{SFits, toZ, ofZ}
 use mir.Facts.{toZ-ofZ}
 use Rattle.amounts.proofs.Steps.{back}
-use Rattle.credit.specs.Bounds.{TotalsBounded}
+use Rattle.credit.specs.NoOverflow.{TotalsBounded}
 use Rattle.credit.specs.Credit.{suspended}
 use Rattle.endings.specs.declared.types.Answer.{Answer}
 use Rattle.endings.specs.Answers.{reply}
-use Rattle.book.proofs.Shown.{shown, suspended-shown, small-shown}
+use Rattle.book.proofs.Shown.{shown, held-shown, owed-shown, suspended-shown, small-shown}
 use Rattle.book.proofs.types.Book.suspended.Statement.{statement}
 use Rattle.book.proofs.types.Book.suspended.Tie as tie
 
@@ -28,17 +29,17 @@ held-requires c κs = tt
 net-owed-requires : tie.Need-net-owed-requires
 net-owed-requires c κs = tt
 
-is-unsound-requires : tie.Need-is-unsound-requires
-is-unsound-requires c κs = tt
+number-requires : tie.Need-number-requires
+number-requires c κs = tt
 
-totals-so : (c : tie.After-is-unsound) → record { support = toZ w64 (ofZ w64 (c .before .before .before .before .before .args .self .support)); held = toZ w64 (ofZ w64 (c .before .before .before .held .result)); owed = toZ w64 (ofZ w64 (c .before .before .net-owed .result)); full = false } ≡ shown (c .before .before .before .before .before .args .self)
+totals-so : (c : tie.After-number) → record { support = toZ w64 (ofZ w64 (c .before .before .before .before .before .args .self .account .support)); held = toZ w64 (ofZ w64 (c .before .before .before .held .result)); owed = toZ w64 (ofZ w64 (c .before .before .net-owed .result)); full = false } ≡ shown (c .before .before .before .before .before .args .self)
 totals-so c =
     let status = c .before .before .before .before .status .ensures in
-    let z : SFits w64 (c .before .before .before .before .before .args .self .support) = search needs in
+    let z : SFits w64 (c .before .before .before .before .before .args .self .account .support) = search needs in
     λ i. record {
       support = toZ-ofZ z i;
-      held = (back (c .before .before .before .held .result) (c .before .before .before .held .ok) ∙ c .before .before .before .held .ensures ∙ ap (λ (x : Answer). reply x .held) status) i;
-      owed = (back (c .before .before .net-owed .result) (c .before .before .net-owed .ok) ∙ c .before .before .net-owed .ensures ∙ ap (λ (x : Answer). reply x .owed) status) i;
+      held = (back (c .before .before .before .held .result) (c .before .before .before .held .ok) ∙ c .before .before .before .held .ensures ∙ ap (λ (x : Answer). reply x .held) status ∙ held-shown (c .before .before .before .before .before .args .self)) i;
+      owed = (back (c .before .before .net-owed .result) (c .before .before .net-owed .ok) ∙ c .before .before .net-owed .ensures ∙ ap (λ (x : Answer). reply x .owed) status ∙ owed-shown (c .before .before .before .before .before .args .self)) i;
       full = false;
     }
 
@@ -48,8 +49,8 @@ is-suspended-requires c κs = subst TotalsBounded (sym (totals-so c)) (small-sho
 returns : tie.Need-returns
 returns c =
     let u = c .before in
-    (λ i. (u .is-unsound .ensures ∙ ap (λ (x : Answer). eqb (reply x .number) 1) (u .before .before .before .before .status .ensures)) i || (c .is-suspended .ensures ∙ ap suspended (totals-so u)) i)
+    (λ i. (ap (λ (n : ℕ). eqb n 1) (u .number .ensures ∙ ap (λ (x : Answer). reply x .number) (u .before .before .before .before .status .ensures))) i || (c .is-suspended .ensures ∙ ap suspended (totals-so u)) i)
     ∙ suspended-shown (c .before .before .before .before .before .before .args .self)
 
 pub suspended-spec : {M : Type 1} → statement M
-suspended-spec = tie.close (tie.spec status-requires held-requires net-owed-requires is-unsound-requires is-suspended-requires returns)
+suspended-spec = tie.close (tie.spec status-requires held-requires net-owed-requires number-requires is-suspended-requires returns)

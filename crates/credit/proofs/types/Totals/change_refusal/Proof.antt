@@ -1,4 +1,4 @@
--- `Totals::weigh_change`: by the change's case, the rows that concern it.
+-- `Totals::change_refusal`: by the change's case, the rows that concern it.
 use borrow.Author.Needs.{needs}
 use mathlib.Core.Path.{ap, _∙_, subst}
 use mathlib.Core.Bool.{cond, _&&_}
@@ -11,7 +11,7 @@ use Rattle.amounts.proofs.Signed.{range-fits}
 use Rattle.refusals.specs.Refusals.{first}
 use Rattle.messages.specs.declared.types.Change.{Change}
 use Rattle.messages.specs.declared.types.Deed.the-variants.{Keyed}
-use Rattle.credit.specs.Bounds.{DeedBounded}
+use Rattle.credit.specs.NoOverflow.{DeedBounded}
 use Rattle.credit.proofs.types.Totals.change_refusal.Statement.{statement}
 use Rattle.credit.proofs.types.Totals.change_refusal.Tie as tie
 
@@ -21,7 +21,7 @@ enum-known-change c = search needs
 is-suspended-requires : tie.Need-is-suspended-requires
 is-suspended-requires c κs = search needs
 
--- what is weighed of a new record
+-- the requirement of a new record
 added : (c : tie.After-change) → Within 1300000000000 (c .change .given .0 .0 .requirement)
 added c = subst (λ (x : Change). DeedBounded (Keyed x)) (c .change .given .1) (c .before .before .pre .1)
 

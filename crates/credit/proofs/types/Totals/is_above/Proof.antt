@@ -9,7 +9,7 @@ use Rattle.amounts.proofs.Steps.{Known, read, param, fits, kept, _plus_}
 use Rattle.credit.proofs.types.Totals.is_above.Statement.{statement}
 use Rattle.credit.proofs.types.Totals.is_above.Tie as tie
 
-after : (s : tie.Start) → Known (toZ w64 (ofZ w64 (s .args .self .held)) +ℤ toZ w64 (ofZ w64 (s .args .requirement))) (s .args .self .held +ℤ s .args .requirement) 334100000000000 334100000000000
+after : (s : tie.Start) → Known (toZ w64 (ofZ w64 (s .args .self .held)) +ℤ toZ w64 (ofZ w64 (s .args .requirement))) (s .args .self .held +ℤ s .args .requirement) 801300000000000 801300000000000
 after s = read (s .pre .0 .held) tt plus param (s .fits .requirement) (s .pre .1)
 
 add-result : tie.Need-add-result

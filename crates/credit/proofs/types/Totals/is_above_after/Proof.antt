@@ -10,10 +10,10 @@ use Rattle.amounts.proofs.Steps.{Known, read, param, fits, kept, _plus_, _minus
 use Rattle.credit.proofs.types.Totals.is_above_after.Statement.{statement}
 use Rattle.credit.proofs.types.Totals.is_above_after.Tie as tie
 
-less : (s : tie.Start) → Known (toZ w64 (ofZ w64 (s .args .self .held)) -ℤ toZ w64 (ofZ w64 (s .args .was))) (s .args .self .held -ℤ s .args .was) 334100000000000 334100000000000
+less : (s : tie.Start) → Known (toZ w64 (ofZ w64 (s .args .self .held)) -ℤ toZ w64 (ofZ w64 (s .args .was))) (s .args .self .held -ℤ s .args .was) 801300000000000 801300000000000
 less s = read (s .pre .0 .held) tt minus param (s .fits .was) (s .pre .1 .0)
 
-after : (s : tie.Start) → Known (toZ w64 (ofZ w64 (toZ w64 (ofZ w64 (s .args .self .held)) -ℤ toZ w64 (ofZ w64 (s .args .was)))) +ℤ toZ w64 (ofZ w64 (s .args .requirement))) (s .args .self .held -ℤ s .args .was +ℤ s .args .requirement) 335400000000000 335400000000000
+after : (s : tie.Start) → Known (toZ w64 (ofZ w64 (toZ w64 (ofZ w64 (s .args .self .held)) -ℤ toZ w64 (ofZ w64 (s .args .was)))) +ℤ toZ w64 (ofZ w64 (s .args .requirement))) (s .args .self .held -ℤ s .args .was +ℤ s .args .requirement) 802600000000000 802600000000000
 after s = kept (less s) tt plus param (s .fits .requirement) (s .pre .1 .1)
 
 sub-result : tie.Need-sub-result

@@ -10,7 +10,7 @@ use Rattle.credit.specs.Credit.{suspended}
 use Rattle.credit.proofs.types.Totals.is_suspended.Statement.{statement}
 use Rattle.credit.proofs.types.Totals.is_suspended.Tie as tie
 
-twice : (s : tie.Start) → Known (pos 2 *ℤ toZ w64 (ofZ w64 (s .args .self .owed))) (pos 2 *ℤ s .args .self .owed) 665600000000000 665600000000000
+twice : (s : tie.Start) → Known (pos 2 *ℤ toZ w64 (ofZ w64 (s .args .self .owed))) (pos 2 *ℤ s .args .self .owed) 800000000000000 800000000000000
 twice s = lit 2 times read (s .pre .owed) tt
 
 mul-result : tie.Need-mul-result

@@ -1,8 +1,8 @@
--- `Totals::weigh`: by the deed's case; what is done to the book as a whole is not weighed.
+-- `Totals::refusal`: by the deed's case; none of these rows concerns what is done to the book as a whole.
 use borrow.Author.Needs.{needs}
 use mathlib.Core.Path.{_∙_, sym, ap, subst}
 use Rattle.refusals.specs.Refusals.{first}
-use Rattle.credit.specs.Bounds.{DeedBounded}
+use Rattle.credit.specs.NoOverflow.{DeedBounded}
 use Rattle.credit.specs.Credit.{creditRows}
 use Rattle.credit.proofs.types.Totals.refusal.Statement.{statement}
 use Rattle.credit.proofs.types.Totals.refusal.Tie as tie

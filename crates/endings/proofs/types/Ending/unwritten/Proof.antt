@@ -1,5 +1,4 @@
--- `Ending::still`: the place is past the last one.
-use mir.Facts.{toZ-ofZ}
+-- `Ending::unwritten`: the place is past the last one.
 use Rattle.endings.proofs.types.Ending.unwritten.Statement.{statement}
 use Rattle.endings.proofs.types.Ending.unwritten.Tie as tie
 
@@ -7,7 +6,7 @@ blank-requires : tie.Need-blank-requires
 blank-requires c κs = tt
 
 returns : tie.Need-returns
-returns c = λ i. record { answer = c .before .args .answer; support = toZ-ofZ (c .before .fits .support) i; place = 256; new = c .blank .ensures i }
+returns c = λ i. record { answer = c .before .args .answer; account = c .before .args .account; place = 256; new = c .blank .ensures i }
 
 pub unwritten-spec : {M : Type 1} → statement M
 unwritten-spec = tie.close (tie.spec blank-requires returns)

@@ -3,6 +3,7 @@ use borrow.Author.Needs.{needs}
 use borrow.Author.Tests.{not-true, not-false, eqb-true, eqb-false}
 use mathlib.Core.Path.{_≡_, _∙_, sym, ap, subst}
 use Prim.Native.Nat.{ℕ}
+use lib.Dec.{eqb}
 use lib.IntN.{ℤ}
 use mir.Syntax.{w64}
 use mir.Val.{SFits}
@@ -14,34 +15,45 @@ use Rattle.messages.specs.declared.types.Deed.{Deed}
 use Rattle.messages.specs.declared.types.Deed.the-variants.{Keyed, SetSupport}
 use Rattle.records.proofs.Bounds.{requirement-bounded}
 use Rattle.credit.specs.declared.types.Totals.{Totals}
-use Rattle.credit.specs.Bounds.{DeedBounded}
-use Rattle.credit.specs.Credit.{creditRows, creditVerdict}
-use Rattle.endings.specs.Endings.{DeedSound, carriedOut, endingOf}
+use Rattle.credit.specs.NoOverflow.{TotalsBounded, DeedBounded}
+use Rattle.credit.specs.Credit.{creditRows}
+use Rattle.credit.proofs.Parts.{totals-bounded}
+use Rattle.endings.specs.Endings.{DeedSound, totalsOf, creditVerdict, carriedOut, endingOf}
 use Rattle.endings.proofs.types.View.carried.Statement.{statement}
 use Rattle.endings.proofs.types.View.carried.Tie as tie
 
-light : (d : Deed) → DeedSound d → DeedBounded d
-light (Keyed (Add r)) f = requirement-bounded r f
-light (Keyed (Rebid was r)) f = (f .0, requirement-bounded r (f .1))
-light (Keyed (Advance r)) f = tt
-light (Keyed (Remove k)) f = tt
-light (SetSupport z) f = tt
+-- a deed in range brings requirements in range
+bounded : (d : Deed) → DeedSound d → DeedBounded d
+bounded (Keyed (Add r)) f = requirement-bounded r f
+bounded (Keyed (Rebid was r)) f = (f .0, requirement-bounded r (f .1))
+bounded (Keyed (Advance r)) f = tt
+bounded (Keyed (Remove k)) f = tt
+bounded (SetSupport z) f = tt
 
 -- what the rows say, as a verdict
 module _ (t : Totals) (d : Deed) where
-  weighed-refused : (n : ℕ) → n ≡ first (creditRows t d) → (n ≡ 0 → ⊥) → creditVerdict t d ≡ refuse n
+  rows-refused : (n : ℕ) → n ≡ first (creditRows t d) → (n ≡ 0 → ⊥) → creditVerdict t d ≡ refuse n
   unfolding creditVerdict judge
-  weighed-refused n e h = rw (← e) (answered-some n d h)
+  rows-refused n e h = rw (← e) (answered-some n d h)
 
-  weighed-accepted : (n : ℕ) → n ≡ first (creditRows t d) → n ≡ 0 → creditVerdict t d ≡ accept d
+  rows-accepted : (n : ℕ) → n ≡ first (creditRows t d) → n ≡ 0 → creditVerdict t d ≡ accept d
   unfolding creditVerdict judge
-  weighed-accepted n e z = rw (← e, z) (answered-none d)
+  rows-accepted n e z = rw (← e, z) (answered-none d)
+
+totals-requires : tie.Need-totals-requires
+totals-requires c κs = c .pre .sums
 
 refusal-requires : tie.Need-refusal-requires
-refusal-requires c κs = (c .before .pre .small, light (c .before .args .deed) (c .before .pre .fair))
+refusal-requires c κs =
+    let s = c .before in
+    (subst TotalsBounded (sym (c .totals .ensures)) (totals-bounded (s .args .self .account .support) (eqb (s .args .self .free) 256) (s .args .self .sums) (s .pre .sums)), bounded (s .args .deed) (s .pre .plan))
+
+-- the first row that applies to the totals
+told : (c : tie.After-refusal) → c .refusal .result ≡ first (creditRows (totalsOf (c .before .before .args .self)) (c .before .before .args .deed))
+told c = c .refusal .ensures ∙ ap (λ (t : Totals). first (creditRows t (c .before .before .args .deed))) (c .before .totals .ensures)
 
 refused-requires : tie.Need-refused-requires
-refused-requires c κs = tt
+refused-requires c κs = c .before .before .before .pre .sums
 
 returns : tie.Need-returns
 unfolding endingOf
@@ -49,14 +61,14 @@ returns c =
     let a = c .before .before .before .before .args in
     let n = c .before .before .refusal .result in
     c .refused .ensures
-    ∙ ap (endingOf (a .self)) (sym (weighed-refused (a .self .totals) (a .deed) n (c .before .before .refusal .ensures) (eqb-false n 0 (not-true _ (c .before .if1 .taken)))))
+    ∙ ap (endingOf (a .self)) (sym (rows-refused (totalsOf (a .self)) (a .deed) n (told (c .before .before)) (eqb-false n 0 (not-true _ (c .before .if1 .taken)))))
 
 -- no row applies
-passed : (c : tie.Else1) → creditVerdict (c .before .before .before .args .self .totals) (c .before .before .before .args .deed) ≡ accept (c .before .before .before .args .deed)
+passed : (c : tie.Else1) → creditVerdict (totalsOf (c .before .before .before .args .self)) (c .before .before .before .args .deed) ≡ accept (c .before .before .before .args .deed)
 passed c =
     let a = c .before .before .before .args in
     let n = c .before .refusal .result in
-    weighed-accepted (a .self .totals) (a .deed) n (c .before .refusal .ensures) (eqb-true n 0 (not-false _ (c .if1 .left)))
+    rows-accepted (totalsOf (a .self)) (a .deed) n (told (c .before)) (eqb-true n 0 (not-false _ (c .if1 .left)))
 
 enum-known-deed : tie.Need-enum-known-deed
 enum-known-deed c = search needs
@@ -64,13 +76,13 @@ enum-known-deed c = search needs
 changed-requires : tie.Need-changed-requires
 changed-requires c κs =
     let s = c .before .before .before .before .before .before in
-    record { small = s .pre .small; old = s .pre .old; fair = subst DeedSound (c .before .deed .given .1) (s .pre .fair) }
+    record { sums = s .pre .sums; old = s .pre .old; plan = subst DeedSound (c .before .deed .given .1) (s .pre .plan) }
 
 enum-known-deed-2 : tie.Need-enum-known-deed-2
 enum-known-deed-2 c = search needs
 
 funded-requires : tie.Need-funded-requires
-funded-requires c κs = tt
+funded-requires c κs = c .before .before .before .before .before .before .pre .sums
 
 returns-2 : tie.Need-returns-2
 unfolding endingOf
@@ -93,6 +105,7 @@ pub carried-spec : {M : Type 1} → statement M
 carried-spec =
     tie.close
     (tie.spec
+    totals-requires
     refusal-requires
     refused-requires
     returns

@@ -19,7 +19,7 @@ blank-requires c κs = tt
 put-requires : tie.Need-put-requires
 put-requires c κs =
     let s = c .before .before .before .before in
-    (s .pre .small, (ap okPlace (c .blank .ensures) ∙ ok-blank, subst (λ (x : Change). DeedSound (Keyed x)) (c .before .before .change .given .1) (s .pre .fair)))
+    (s .pre .sums, (ap okPlace (c .blank .ensures) ∙ ok-blank, subst (λ (x : Change). DeedSound (Keyed x)) (c .before .before .change .given .1) (s .pre .plan)))
 
 enum-known-change-2 : tie.Need-enum-known-change-2
 enum-known-change-2 c = search needs
@@ -27,7 +27,7 @@ enum-known-change-2 c = search needs
 put-requires-2 : tie.Need-put-requires-2
 put-requires-2 c κs =
     let s = c .before .before .before in
-    (s .pre .small, (s .pre .old, subst (λ (x : Change). DeedSound (Keyed x)) (c .before .change2 .given .1) (s .pre .fair) .1))
+    (s .pre .sums, (s .pre .old, subst (λ (x : Change). DeedSound (Keyed x)) (c .before .change2 .given .1) (s .pre .plan) .1))
 
 enum-known-change-3 : tie.Need-enum-known-change-3
 enum-known-change-3 c = search needs
@@ -35,7 +35,7 @@ enum-known-change-3 c = search needs
 put-requires-3 : tie.Need-put-requires-3
 put-requires-3 c κs =
     let s = c .before .before .before in
-    (s .pre .small, (s .pre .old, subst (λ (x : Change). DeedSound (Keyed x)) (c .before .change3 .given .1) (s .pre .fair)))
+    (s .pre .sums, (s .pre .old, subst (λ (x : Change). DeedSound (Keyed x)) (c .before .change3 .given .1) (s .pre .plan)))
 
 enum-told : tie.Need-enum-told
 enum-told c = search needs
@@ -46,7 +46,7 @@ blank-requires-2 c κs = tt
 put-requires-4 : tie.Need-put-requires-4
 put-requires-4 c κs =
     let s = c .before .before .before in
-    (s .pre .small, (s .pre .old, ap okPlace (c .blank2 .ensures) ∙ ok-blank))
+    (s .pre .sums, (s .pre .old, ap okPlace (c .blank2 .ensures) ∙ ok-blank))
 
 returns : tie.Need-returns
 returns c =

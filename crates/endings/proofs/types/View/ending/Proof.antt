@@ -6,8 +6,7 @@ use mathlib.Core.Bool.{Bool, true, false, cond}
 use Rattle.refusals.specs.Refusals.{Verdict, refuse, accept}
 use Rattle.messages.specs.declared.types.Deed.{Deed}
 use Rattle.messages.specs.declared.types.Planned.{Planned}
-use Rattle.credit.specs.Credit.{pass}
-use Rattle.endings.specs.Endings.{View, Apt, asVerdict, unsound, endingOf, ended}
+use Rattle.endings.specs.Endings.{View, Summable, asVerdict, totalsOf, pass, unsound, endingOf, ended}
 use Rattle.endings.proofs.types.View.ending.Statement.{statement}
 use Rattle.endings.proofs.types.View.ending.Tie as tie
 
@@ -15,11 +14,11 @@ use Rattle.endings.proofs.types.View.ending.Tie as tie
 module _ (s : View) (v : Verdict Deed) where
   ended-unsound : s .sound ≡ false → unsound s ≡ ended s v
   unfolding ended
-  ended-unsound e = ap (λ (t : Bool). cond t (endingOf s (pass (s .totals) v)) (unsound s)) (sym e)
+  ended-unsound e = ap (λ (t : Bool). cond t (endingOf s (pass (totalsOf s) v)) (unsound s)) (sym e)
 
-  ended-sound : s .sound ≡ true → endingOf s (pass (s .totals) v) ≡ ended s v
+  ended-sound : s .sound ≡ true → endingOf s (pass (totalsOf s) v) ≡ ended s v
   unfolding ended
-  ended-sound e = ap (λ (t : Bool). cond t (endingOf s (pass (s .totals) v)) (unsound s)) (sym e)
+  ended-sound e = ap (λ (t : Bool). cond t (endingOf s (pass (totalsOf s) v)) (unsound s)) (sym e)
 
 not-sound-requires : tie.Need-not-sound-requires
 not-sound-requires c κs = tt
@@ -33,7 +32,7 @@ enum-known-plan : tie.Need-enum-known-plan
 enum-known-plan c = search needs
 
 refused-requires : tie.Need-refused-requires
-refused-requires c κs = tt
+refused-requires c κs = c .before .before .before .before .before .pre (not-false _ (c .before .before .before .if1 .left)) .sums
 
 enum-known-plan-2 : tie.Need-enum-known-plan-2
 enum-known-plan-2 c = search needs
@@ -41,7 +40,7 @@ enum-known-plan-2 c = search needs
 carried-requires : tie.Need-carried-requires
 carried-requires c κs =
     let s = c .before .before .before .before .before in
-    subst (Apt (s .args .self)) (c .before .plan2 .given .1) (s .pre) (not-false _ (c .before .before .before .if1 .left))
+    subst (Summable (s .args .self)) (c .before .plan2 .given .1) (s .pre (not-false _ (c .before .before .before .if1 .left)))
 
 returns-2 : tie.Need-returns-2
 unfolding endingOf pass

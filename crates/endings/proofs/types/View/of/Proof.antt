@@ -2,7 +2,6 @@
 use borrow.Author.Needs.{needs}
 use mathlib.Core.Path.{_∙_, ap}
 use mathlib.Core.Bool.{_&&_}
-use lib.Dec.{eqb}
 use mir.Syntax.{w64}
 use mir.Val.{SFits}
 use mir.Facts.{toZ-ofZ}
@@ -19,12 +18,11 @@ all-distinct-requires c κs = tt
 returns : tie.Need-returns
 returns c =
     let a = c .before .before .before .before .before .args in
-    let h : SFits w64 (a .walk .held) = search needs in
-    let o : SFits w64 (a .walk .owed) = search needs in
-    let support = toZ-ofZ (c .before .before .before .before .before .fits .support) in
+    let h : SFits w64 (a .account .support) = search needs in
     λ i. record {
-      sound = a .walk .ranged && (c .before .before .before .before .is-support .ensures ∙ ap isSupport support) i && c .before .before .all-distinct .ensures i;
-      totals = record { support = support i; held = toZ-ofZ h i; owed = toZ-ofZ o i; full = eqb (a .walk .free) 256 };
+      sound = a .walk .ranged && (c .before .before .is-support .ensures ∙ ap isSupport (toZ-ofZ h)) i && c .all-distinct .ensures i;
+      account = a .account;
+      sums = a .walk .sums;
       free = a .walk .free;
       at = a .walk .at;
       old = a .old;

@@ -1,64 +1,57 @@
--- `View::put`: the sums less one weight and one more fit.
-use borrow.Author.Needs.{needs}
-use mathlib.Core.Path.{_≡_, refl}
-use mathlib.Core.Bool.{true}
-use lib.IntN.{ℤ, _+ℤ_, _-ℤ_}
-use mir.Syntax.{w64}
-use mir.Val.{SFits, toZ, ofZ}
-use mir.Facts.{toZ-ofZ}
-use Rattle.amounts.proofs.Steps.{Known, known, read, fits, kept, _plus_, _minus_}
+-- `View::put`: the sums less one record and with another fit.
+use mathlib.Core.Path.{_≡_, _∙_, sym, ap, subst}
+use native.Mathlib.Omega.{arith}
+use Rattle.amounts.proofs.Steps.{read}
 use Rattle.records.proofs.Bounds.{requirement-bounded}
-use Rattle.credit.specs.Weights.{owes}
-use Rattle.credit.proofs.Arms.{weight-bounded}
-use Rattle.endings.specs.Answers.{Accepted}
-use Rattle.endings.specs.Endings.{putIn}
+use Rattle.credit.specs.declared.types.Sums.{Sums}
+use Rattle.credit.specs.Sums.{withRecord, withoutRecord}
+use Rattle.credit.specs.NoOverflow.{SumsWithin}
+use Rattle.credit.proofs.Parts.{sums-wider, with-within, without-within}
+use Rattle.endings.specs.Endings.{putIn, accepting}
 use Rattle.endings.proofs.types.View.put.Statement.{statement}
 use Rattle.endings.proofs.types.View.put.Tie as tie
 
-held-less : (s : tie.Start) → Known (toZ w64 (ofZ w64 (s .args .self .totals .held)) -ℤ toZ w64 (ofZ w64 (s .args .was .requirement))) (s .args .self .totals .held -ℤ s .args .was .requirement) 334100000000000 334100000000000
-held-less s = read (s .pre .0 .held) tt minus read (requirement-bounded (s .args .was) (s .pre .1 .0)) tt
+module _ (s : tie.Start) where
+  abbrev less : Sums
+  less = withoutRecord (s .args .self .sums) (s .args .was)
 
-held-more : (s : tie.Start) → Known (toZ w64 (ofZ w64 (toZ w64 (ofZ w64 (s .args .self .totals .held)) -ℤ toZ w64 (ofZ w64 (s .args .was .requirement)))) +ℤ toZ w64 (ofZ w64 (s .args .new .requirement))) ((s .args .self .totals .held -ℤ s .args .was .requirement) +ℤ s .args .new .requirement) 335400000000000 335400000000000
-held-more s = kept (held-less s) tt plus read (requirement-bounded (s .args .new) (s .pre .1 .1)) tt
+  abbrev next : Sums
+  next = withRecord less (s .args .new)
 
--- a weight, as it was answered
-module _ (s : tie.Start) (x y : ℤ) (e : x ≡ owes (s .args .was)) (f : y ≡ owes (s .args .new)) where
-  owed-less : Known (toZ w64 (ofZ w64 (s .args .self .totals .owed)) -ℤ toZ w64 (ofZ w64 x)) (s .args .self .totals .owed -ℤ owes (s .args .was)) 334100000000000 334100000000000
-  owed-less = read (s .pre .0 .owed) tt minus kept (known e (weight-bounded true (s .args .was) (s .pre .1 .0))) tt
+  less-within : SumsWithin 334100000000000 less
+  less-within = without-within (s .args .self .sums) (s .pre .0) (s .args .was) (s .pre .1 .0)
 
-  owed-more : Known (toZ w64 (ofZ w64 (toZ w64 (ofZ w64 (s .args .self .totals .owed)) -ℤ toZ w64 (ofZ w64 x))) +ℤ toZ w64 (ofZ w64 y)) ((s .args .self .totals .owed -ℤ owes (s .args .was)) +ℤ owes (s .args .new)) 335400000000000 335400000000000
-  owed-more = kept owed-less tt plus kept (known f (weight-bounded true (s .args .new) (s .pre .1 .1))) tt
+  next-within : SumsWithin 335400000000000 next
+  next-within = with-within less less-within (s .args .new) (s .pre .1 .1)
 
-sub-t6 : tie.Need-sub-t6
-sub-t6 c = fits (held-less (c .before .before .before .before .before)) tt
+without-requires : tie.Need-without-requires
+without-requires c κs = let s = c .before .before in (sums-wider (s .args .self .sums) (s .pre .0) (omega arith), s .pre .1 .0)
 
-add-t7 : tie.Need-add-t7
-add-t7 c = fits (held-more (c .before .before .before .before .before .before .before)) tt
+with-requires : tie.Need-with-requires
+with-requires c κs =
+    let s = c .before .before .before in
+    (subst (SumsWithin 400000000000000) (sym (c .without .ensures)) (sums-wider (less s) (less-within s) (omega arith)), s .pre .1 .1)
 
-owes-requires : tie.Need-owes-requires
-owes-requires c κs = tt
+-- the sums of the next book, as they were answered
+next-is : (c : tie.After-with) → c .with .result ≡ next (c .before .before .before .before)
+next-is c = c .with .ensures ∙ ap (λ (x : Sums). withRecord x (c .before .before .before .before .args .new)) (c .before .without .ensures)
 
-sub-t9 : tie.Need-sub-t9
-sub-t9 c = fits (owed-less (c .before .before .before .before .before .before .before .before .before .before) (c .before .before .owes .result) (owes (c .before .before .before .before .before .before .before .before .before .before .args .new)) (c .before .before .owes .ensures) refl) tt
-
-owes-requires-2 : tie.Need-owes-requires-2
-owes-requires-2 c κs = tt
-
-add-t11 : tie.Need-add-t11
-add-t11 c = fits (owed-more (c .before .before .before .before .before .before .before .before .before .before .before) (c .before .before .before .owes .result) (c .owes2 .result) (c .before .before .before .owes .ensures) (c .owes2 .ensures)) tt
+accepting-requires : tie.Need-accepting-requires
+accepting-requires c κs =
+    let s = c .before .before .before .before .before in
+    subst (SumsWithin 400000000000000) (sym (next-is (c .before))) (sums-wider (next s) (next-within s) (omega arith))
 
 returns : tie.Need-returns
 unfolding putIn
 returns c =
-    let s = c .before .before .before .before .before .before .before .before .before .before .before .before .before in
-    let z : SFits w64 (s .args .self .totals .support) = search needs in
-    let owed = owed-more s (c .before .before .before .before .before .owes .result) (c .before .before .owes2 .result) (c .before .before .before .before .before .owes .ensures) (c .before .before .owes2 .ensures) in
+    let s = c .before .before .before .before .before .before in
+    let requirement = read (requirement-bounded (s .args .new) (s .pre .1 .1)) tt in
     λ i. record {
-      answer = Accepted (read (requirement-bounded (s .args .new) (s .pre .1 .1)) tt .is i) (kept (held-more s) tt .is i) (kept owed tt .is i);
-      support = toZ-ofZ z i;
+      answer = (c .accepting .ensures ∙ (λ j. accepting (requirement .is j) (next-is (c .before .before) j))) i;
+      account = s .args .self .account;
       place = s .args .place;
       new = s .args .new;
     }
 
 pub put-spec : {M : Type 1} → statement M
-put-spec = tie.close (tie.spec sub-t6 add-t7 owes-requires sub-t9 owes-requires-2 add-t11 returns)
+put-spec = tie.close (tie.spec without-requires with-requires accepting-requires returns)

@@ -1,4 +1,4 @@
--- `Seen::old`: what stands at the key's place, if it has one.
+-- `Walk::old`: what stands at the key's place, if it has one.
 use borrow.Author.Tests.{lt-ltb, le-ltb}
 use Rattle.walk.proofs.types.Walk.old.Statement.{statement}
 use Rattle.walk.proofs.types.Walk.old.Tie as tie

@@ -1,0 +1,54 @@
+-- The measure is what is left of the 256 places.
+use Prim.Native.Nat.{_≤_, _-_}
+use borrow.Author.Needs.{needs}
+use Rattle.drill.proofs.trials.all_mixed.Statement.{statement}
+use Rattle.drill.proofs.trials.all_mixed.Tie as tie
+
+abbrev Inv-loop : tie.InvT-loop
+Inv-loop digest book next₀ i₀ next i = i ≤ 256
+
+abbrev μ-loop : tie.MeasureT-loop
+μ-loop digest book next₀ i₀ next i = 256 - i
+
+mix-cents-requires : tie.Need-mix-cents-requires Inv-loop μ-loop
+mix-cents-requires c κs = tt
+
+loop-holds : tie.Need-loop-holds Inv-loop μ-loop
+loop-holds c = search needs
+
+mul-r : tie.Need-mul-r Inv-loop μ-loop
+mul-r c = search needs
+
+element-copy-out-r : tie.Need-element-copy-out-r Inv-loop μ-loop
+element-copy-out-r c = search needs
+
+mix-record-requires : tie.Need-mix-record-requires Inv-loop μ-loop
+mix-record-requires c κs = tt
+
+add-i : tie.Need-add-i Inv-loop μ-loop
+add-i c = search needs
+
+loop-less : tie.Need-loop-less Inv-loop μ-loop
+loop-less c = search needs
+
+loop-again : tie.Need-loop-again Inv-loop μ-loop
+loop-again c = search needs
+
+returns : tie.Need-returns Inv-loop μ-loop
+returns c = search needs
+
+pub all-mixed-spec : {M : Type 1} → statement M
+all-mixed-spec =
+    tie.close
+    (tie.spec
+    Inv-loop
+    μ-loop
+    mix-cents-requires
+    loop-holds
+    mul-r
+    element-copy-out-r
+    mix-record-requires
+    add-i
+    loop-less
+    loop-again
+    returns)

@@ -1,0 +1,169 @@
+// How a book set aside is changed: one field of one place, the support, or a key that stands twice, at each limit of soundness and past it.
+use book::Record;
+
+// Fields, 13; for each, 8 values, 6 stages (0 is a free place) and 4 kinds.
+pub(crate) const COUNT: u64 = 2_496;
+
+// The fields past a record's own.
+pub(crate) const SUPPORT: u64 = 11;
+
+pub(crate) const TWICE: u64 = 12;
+
+const I64_MAX: i64 = 9_223_372_036_854_775_807;
+
+const I64_MIN: i64 = -9_223_372_036_854_775_808;
+
+// What each of the first 12 fields is set to, 8 values for each.
+const VALUES: [i64; 96] = [
+    // Kind.
+    0,
+    1,
+    2,
+    3,
+    4,
+    5,
+    6,
+    I64_MAX,
+    // Path.
+    0,
+    1,
+    2,
+    500,
+    998,
+    999,
+    1_000,
+    I64_MAX,
+    // Hour.
+    0,
+    1,
+    77,
+    999_998,
+    999_999,
+    1_000_000,
+    1_000_001,
+    I64_MAX,
+    // Stage.
+    0,
+    1,
+    2,
+    3,
+    4,
+    5,
+    6,
+    I64_MAX,
+    // Bid MWh.
+    0,
+    1,
+    9_999,
+    10_000,
+    10_001,
+    640_000,
+    640_001,
+    I64_MAX,
+    // Differential.
+    0,
+    1,
+    2,
+    999_999,
+    1_000_000,
+    1_000_001,
+    1_000_002,
+    I64_MAX,
+    // Exempt: 1 sets it.
+    0,
+    1,
+    0,
+    1,
+    0,
+    1,
+    0,
+    1,
+    // Schedule.
+    0,
+    1,
+    99,
+    100,
+    101,
+    640_000,
+    640_001,
+    I64_MAX,
+    // Day-Ahead price.
+    0,
+    1,
+    -1,
+    1_000_000,
+    -1_000_000,
+    1_000_001,
+    -1_000_001,
+    I64_MIN,
+    // Requirement.
+    0,
+    -1,
+    20_000_000_000,
+    20_000_000_001,
+    640_000_000_000,
+    640_000_000_001,
+    1_000_000_000_000,
+    1_000_000_000_001,
+    // Requirement again.
+    -1_000_000_000_000,
+    -1_000_000_000_001,
+    1_300_000_000_000,
+    1_300_000_000_001,
+    -1_300_000_000_000,
+    -1_300_000_000_001,
+    I64_MAX,
+    I64_MIN,
+    // The book's support.
+    0,
+    1,
+    1_000_000_000_000_000,
+    -1,
+    1_000_000_000_000_001,
+    2_000_000_000_000_000,
+    I64_MAX,
+    I64_MIN,
+];
+
+pub(crate) fn field(change: u64) -> u64 {
+    change / 192 % 13
+}
+
+pub(crate) fn value(change: u64) -> i64 {
+    VALUES[(change / 24 % 96) as usize]
+}
+
+// A sound record of each kind at each stage but 2 for kind 3; at stage 0 a free place, and at 5 one that is none.
+fn base(change: u64) -> Record {
+    let mut r = Record::blank();
+    let stage = change / 4 % 6;
+    if 0 < stage {
+        let kind = change % 4 + 1;
+        r.key.kind = kind;
+        r.key.path = 900;
+        r.key.hour = 77;
+        r.stage = stage;
+        r.mwh = 100;
+    }
+    r
+}
+
+pub(crate) fn record(change: u64) -> Record {
+    let cents = value(change);
+    let v = amounts::magnitude(cents);
+    let mut r = base(change);
+    match change / 192 % 13 {
+        0 => r.key.kind = v,
+        1 => r.key.path = v,
+        2 => r.key.hour = v,
+        3 => r.stage = v,
+        4 => r.mwh = v,
+        5 => r.differential = v,
+        6 => r.exempt = v == 1,
+        7 => r.schedule = v,
+        8 => r.price = cents,
+        9 | 10 => r.requirement = cents,
+        _ => (),
+    }
+    r
+}
