@@ -15,8 +15,8 @@ use Rattle.amounts.specs.Amount.{up, Range}
 use Rattle.amounts.specs.Limits.{between, isPrice}
 use Rattle.amounts.specs.Lists.{every}
 use Rattle.amounts.proofs.Signed.{up-neg, mul-mono, larger-of, times-of, range-true, range-wider}
-use Rattle.refusals.specs.Refusals.{row, first, judge, None, numbered}
-use Rattle.refusals.proofs.Laws.{and-left, and-right, none-applies, none-split, numbered-append, answered-none, answered-some}
+use Rattle.refusals.specs.Refusals.{row, first, judge, None}
+use Rattle.refusals.proofs.Laws.{numbered, and-left, and-right, none-applies, none-split, numbered-append, answered-none, answered-some}
 use Rattle.kinds.specs.declared.Rules.{Rules}
 use Rattle.kinds.specs.Kinds.{isKind, kindRow, unlessExempt, rulesOf, importRules, exportRules, hourAheadRules, wheelRules, differentialFits, bidMwhFits, pendingFits}
 use Rattle.kinds.proofs.ByKind.{by-kind, by-rules, rules-1, rules-2, rules-3, rules-4}

@@ -2,7 +2,7 @@
 -- Assumes nothing.
 use mathlib.Core.Path.{_≡_, refl}
 use mathlib.Core.Bool.{true}
-use Rattle.refusals.specs.Refusals.{numbered}
+use Rattle.refusals.proofs.Laws.{numbered}
 use Rattle.messages.specs.declared.types.Change.the-variants.{Add, Rebid, Advance, Remove}
 use Rattle.messages.specs.declared.types.Deed.{Deed}
 use Rattle.messages.specs.declared.types.Deed.the-variants.{Keyed, SetSupport}

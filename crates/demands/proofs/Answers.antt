@@ -7,8 +7,8 @@ use Prim.Native.Nat.{ℕ}
 use lib.Dec.{eqb}
 use lib.IntN.{ℤ}
 use borrow.Author.Tests.{eqb-true}
-use Rattle.refusals.specs.Refusals.{first, refuse, accept, answered, judge, None, First, numbered}
-use Rattle.refusals.proofs.Laws.{none-applies, none-first, first-applies, first-is, numbered-append}
+use Rattle.refusals.specs.Refusals.{first, refuse, accept, answered, judge, None, First}
+use Rattle.refusals.proofs.Laws.{numbered, none-applies, none-first, first-applies, first-is, numbered-append}
 use Rattle.messages.specs.declared.types.Message.{Message}
 use Rattle.messages.specs.declared.types.Deed.{Deed}
 use Rattle.messages.specs.Plan.{keyOf, planRows}

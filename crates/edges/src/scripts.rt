@@ -72,16 +72,16 @@ pub(crate) fn funding(text: &[u8]) -> Funding {
 // A record, after the place that it is written to.
 pub(crate) fn record(text: &[u8]) -> Record {
     let key = key_from(text, 1);
-    Record {
-        key,
-        stage: whole(text, 4),
-        mwh: whole(text, 5),
-        differential: whole(text, 6),
-        exempt: whole(text, 7) == 1,
-        schedule: whole(text, 8),
-        price: signed(text, 9),
-        requirement: signed(text, 10),
-    }
+    let mut record = Record::blank();
+    record.key = key;
+    record.stage = whole(text, 4);
+    record.mwh = whole(text, 5);
+    record.differential = whole(text, 6);
+    record.exempt = whole(text, 7) == 1;
+    record.schedule = whole(text, 8);
+    record.price = signed(text, 9);
+    record.requirement = signed(text, 10);
+    record
 }
 
 // ---- the points: from its sixth number on a line has by turns the MWh and the price of up to four

@@ -9,7 +9,7 @@ use mir.Syntax.{w64}
 use mir.Val.{SFits, toZ, ofZ}
 use mir.Facts.{toZ-ofZ}
 use borrow.Author.Tests.{leb-true, le-leb, not-false}
-use Rattle.amounts.specs.Limits.{isQuantity, isPrice, isDifferential, isBid}
+use Rattle.amounts.specs.Limits.{isQuantity, isPrice, isDifferential, isPending}
 use Rattle.amounts.proofs.Signed.{range-true}
 use Rattle.amounts.proofs.Steps.{Known, param, quantity}
 use Rattle.refusals.specs.Refusals.{None}
@@ -36,15 +36,15 @@ differential-cast n h = record { sfits = omega (arith, leb-true n 1000000 h) }
 pub price : {z : ℤ} → SFits w64 z → isPrice z ≡ true → Known (toZ w64 (ofZ w64 z)) z 1000000 1000000
 price {z} f h = param f (range-true 1000000 1000000 z h)
 
-pub pending : {z : ℤ} → SFits w64 z → isBid z ≡ true → Known (toZ w64 (ofZ w64 z)) z 0 640000000000
+pub pending : {z : ℤ} → SFits w64 z → isPending z ≡ true → Known (toZ w64 (ofZ w64 z)) z 0 640000000000
 pending {z} f h = param f (range-true 0 640000000000 z h)
 
 -- and handed on to a call
 pub handed-price : {z : ℤ} → SFits w64 z → isPrice z ≡ true → isPrice (toZ w64 (ofZ w64 z)) ≡ true
 handed-price f h = ap isPrice (toZ-ofZ f) ∙ h
 
-pub handed-pending : {z : ℤ} → SFits w64 z → isBid z ≡ true → isBid (toZ w64 (ofZ w64 z)) ≡ true
-handed-pending f h = ap isBid (toZ-ofZ f) ∙ h
+pub handed-pending : {z : ℤ} → SFits w64 z → isPending z ≡ true → isPending (toZ w64 (ofZ w64 z)) ≡ true
+handed-pending f h = ap isPending (toZ-ofZ f) ∙ h
 
 -- ---- the numbers of a post or a finish that no row refuses
 

@@ -5,7 +5,7 @@ use mathlib.Core.Bool.{true}
 use mathlib.Core.List.{_∷_}
 use Prim.Native.Nat.{ℕ}
 use lib.IntN.{ℤ}
-use Rattle.refusals.specs.Refusals.{numbered}
+use Rattle.refusals.proofs.Laws.{numbered}
 use Rattle.kinds.specs.Kinds.{kindRow}
 use Rattle.formulas.specs.Rows.{deliveryRows, postedRows, finishedRows, billRows}
 

@@ -9,8 +9,8 @@ use native.Mathlib.Omega.{arith}
 use borrow.Author.Tests.{leb-true, ltb-true, ltb-false, not-false}
 use lib.Dec.{ltb}
 use lib.IntN.{ℤ, pos, negℤ, _+ℤ_, _-ℤ_, _*ℤ_}
-use Rattle.amounts.specs.Amount.{up, down, Max, Range}
-use Rattle.amounts.specs.Limits.{isQuantity, isPrice, isDifferential, isBid, isWheel, isFinished}
+use Rattle.amounts.specs.Amount.{up, down, Max, Range, inRange}
+use Rattle.amounts.specs.Limits.{isQuantity, isPrice, isDifferential, isPending, isFinished}
 use Rattle.amounts.proofs.Signed.{sum-of, difference-of, larger-of, times-of, mul-mono, max-gap, tested, range-true, range-wider, range-add, range-sub, range-max, range-times, range-mul}
 use Rattle.refusals.specs.Refusals.{Row, first, None, judge}
 use Rattle.refusals.specs.declared.Figure.the-variants.{Cents, Refused}
@@ -55,7 +55,7 @@ pub export-posted-range : (s : ℕ) (p : ℤ) (d : ℕ) → isQuantity s ≡ tru
 unfolding exportPosted
 export-posted-range s p d hs hp hd = range-times (leb-true s 640000 hs) (range-max (priced p hp) (counted 1000000 d (leb-true d 1000000 hd)))
 
-pub export-finished-range : (posted : ℤ) (s a : ℕ) (p : ℤ) → isBid posted ≡ true → isQuantity s ≡ true → isQuantity a ≡ true → isPrice p ≡ true → Range 640000000000 1280000000000 (exportFinished posted s a p)
+pub export-finished-range : (posted : ℤ) (s a : ℕ) (p : ℤ) → isPending posted ≡ true → isQuantity s ≡ true → isQuantity a ≡ true → isPrice p ≡ true → Range 640000000000 1280000000000 (exportFinished posted s a p)
 unfolding exportFinished
 export-finished-range posted s a p hr hs ha hp =
     range-add (range-sub (range-true 0 640000000000 posted hr) (balancing-range s a p hs ha hp)) (balancing-range a s p ha hs hp)
@@ -85,7 +85,7 @@ wheel-by r d x y hr hd hx hy one =
 one-is-none : (s a : ℕ) → (s - a ≡ 0) ⊎ (a - s ≡ 0)
 one-is-none s a = tested (ltb s a) (λ e. inl (omega (arith, ltb-true s a e))) (λ e. inr (omega (arith, ltb-false s a e)))
 
-pub wheel-finished-range : (posted : ℤ) (s a : ℕ) (w i : ℤ) → isWheel posted ≡ true → isQuantity s ≡ true → isQuantity a ≡ true → isPrice w ≡ true → isPrice i ≡ true → Range 1300000000000 1300000000000 (wheelFinished posted s a w i)
+pub wheel-finished-range : (posted : ℤ) (s a : ℕ) (w i : ℤ) → inRange 0 20000000000 posted ≡ true → isQuantity s ≡ true → isQuantity a ≡ true → isPrice w ≡ true → isPrice i ≡ true → Range 1300000000000 1300000000000 (wheelFinished posted s a w i)
 unfolding wheelFinished
 wheel-finished-range posted s a w i hr hs ha hw hi =
     let s≤ = leb-true s 640000 hs in

@@ -3,7 +3,7 @@ ghost use mathlib.Core.Path.{_≡_};
 ghost use mathlib.Core.Bool.{true};
 ghost use lib.IntN.{pos, _-ℤ_};
 ghost use Rattle.amounts.specs.Amount.{Max};
-ghost use Rattle.amounts.specs.Limits.{isQuantity, isPrice, isDifferential, isBid};
+ghost use Rattle.amounts.specs.Limits.{isQuantity, isPrice, isDifferential, isPending};
 ghost use Rattle.refusals.specs.Refusals.{None};
 ghost use Rattle.refusals.specs.Figures.{figure};
 ghost use Rattle.formulas.specs.Stages.{importPosted, balancing, importFinished, exportPosted, exportFinished, hourAheadFinished, wheelPosted, wheelFinished, postedRequirement, finishedRequirement};
@@ -58,7 +58,7 @@ fn export_posted(schedule: u64, day_ahead: i64, differential: u64) -> i64
 }
 
 fn export_finished(posted_cents: i64, schedule: u64, actual: u64, real_time: i64) -> i64
-    requires { ⌜ isBid «posted_cents» ≡ true ⌝ }
+    requires { ⌜ isPending «posted_cents» ≡ true ⌝ }
     requires { ⌜ isQuantity schedule ≡ true ⌝ }
     requires { ⌜ isQuantity actual ≡ true ⌝ }
     requires { ⌜ isPrice «real_time» ≡ true ⌝ }
@@ -102,7 +102,7 @@ fn wheel_finished(
     withdrawal: i64,
     injection: i64,
 ) -> i64
-    requires { ⌜ isBid «posted_cents» ≡ true ⌝ }
+    requires { ⌜ isPending «posted_cents» ≡ true ⌝ }
     requires { ⌜ isQuantity schedule ≡ true ⌝ }
     requires { ⌜ isQuantity actual ≡ true ⌝ }
     requires { ⌜ isPrice withdrawal ≡ true ⌝ }

@@ -9,7 +9,7 @@ use lib.Dec.{T, eqb}
 use lib.IntN.{ℤ, pos, negℤ}
 use lib.Signed.{leZ}
 use Rattle.amounts.specs.Amount.{Range, inRange}
-use Rattle.amounts.specs.Limits.{isPrice, isNil, isBid}
+use Rattle.amounts.specs.Limits.{isPrice, isNil, isPending}
 use Rattle.amounts.proofs.Signed.{range-says, range-true, range-wider}
 use Rattle.refusals.proofs.Laws.{and-left, and-right, and-both}
 use Rattle.kinds.specs.Kinds.{Rules, wheel, unlessExempt, rulesOf, differentialFits, pendingFits, pricesFit}
@@ -38,7 +38,7 @@ module _ (kind : ℕ) (z : ℤ) where
       (λ h. range-wider (range-true 0 0 z h) (omega arith) (omega arith))
       kind
 
-  pub pending-bid : pendingFits (rulesOf kind) z ≡ true → isBid z ≡ true
+  pub pending-bid : pendingFits (rulesOf kind) z ≡ true → isPending z ≡ true
   pending-bid h = range-test 0 640000000000 z (pending-wide h)
 
   pub pending-wheel : kind ≡ wheel → pendingFits (rulesOf kind) z ≡ true → inRange 0 20000000000 z ≡ true

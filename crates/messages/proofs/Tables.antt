@@ -7,8 +7,8 @@ use Prim.Native.Nat.{ℕ}
 use lib.Dec.{leb, eqb}
 use lib.IntN.{ℤ}
 use borrow.Author.Tests.{eqb-true}
-use Rattle.refusals.specs.Refusals.{Row, row, first, refuse, accept, answered, judge, orElse, numbered}
-use Rattle.refusals.proofs.Laws.{first-append, numbered-append}
+use Rattle.refusals.specs.Refusals.{Row, row, first, refuse, accept, answered, judge, orElse}
+use Rattle.refusals.proofs.Laws.{numbered, first-append, numbered-append}
 use Rattle.bids.specs.Rows.{bidRows}
 use Rattle.formulas.specs.Rows.{deliveryRows, billRows}
 use Rattle.bids.specs.declared.types.Bid.{Bid}

@@ -8,7 +8,12 @@ use Prim.Native.Nat.{ℕ}
 use native.Mathlib.Omega.{arith}
 use lib.Dec.{T, eqb}
 use borrow.Author.Tests.{eqb-true, eq-eqb, ne-eqb}
-use Rattle.refusals.specs.Refusals.{Row, first, Verdict, refuse, accept, answered, judge, orElse, None, First, numbered}
+use Rattle.refusals.specs.Refusals.{Row, first, Verdict, refuse, accept, answered, judge, orElse, None, First}
+
+-- no row has the number 0; a test that is computed, whatever the rows say
+unfoldable pub numbered : List Row → Bool
+numbered [] = true
+numbered (r ∷ rs) = not (eqb (r .number) 0) && numbered rs
 
 -- ---- tests
 pub never : {X : Type 0} → false ≡ true → X

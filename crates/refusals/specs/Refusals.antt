@@ -1,7 +1,7 @@
 -- Document 01, 'Turned away, and why': rows in the paper's order, and the first that applies.
 -- Assumes nothing.
 use mathlib.Core.Path.{_≡_}
-use mathlib.Core.Bool.{Bool, true, false, cond, not, _&&_}
+use mathlib.Core.Bool.{Bool, true, false, cond}
 use mathlib.Core.List.{List, [], _∷_}
 use mathlib.Core.Logic.{_⊎_}
 use Prim.Native.Nat.{ℕ}
@@ -46,8 +46,3 @@ None (r ∷ rs) = (r .applies ≡ false) × None rs
 unfoldable pub First : ℕ → List Row → Type 0
 First n [] = ⊥
 First n (r ∷ rs) = ((r .applies ≡ true) × (r .number ≡ n)) ⊎ ((r .applies ≡ false) × First n rs)
-
--- no row has the number 0; a test that is computed, whatever the rows say
-unfoldable pub numbered : List Row → Bool
-numbered [] = true
-numbered (r ∷ rs) = not (eqb (r .number) 0) && numbered rs
