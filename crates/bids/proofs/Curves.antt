@@ -24,8 +24,9 @@ use Rattle.kinds.proofs.Fits.{pending-range, exempt-range, differential-small}
 use Rattle.bids.specs.Points.{Point, curve, largestMwh, totalMwh, share, mwhAt, Exposure, tried, exposure, wheelExposure}
 use Rattle.bids.specs.Bids.{importBid, exportBid, hourAheadBid, bidMwh, bidRequirement}
 use Rattle.bids.specs.Rows.{isPointMwh, pointRows, bidRows}
-use Rattle.bids.specs.Entries.{bidAnswer, bidVerdict}
-use Rattle.bids.specs.declared.types.BidAnswer.the-variants.{Stands, Refused}
+use Rattle.refusals.specs.Answers.{bidAnswer}
+use Rattle.bids.specs.Entries.{bidVerdict}
+use Rattle.refusals.specs.declared.BidAnswer.the-variants.{Stands, Refused}
 use Rattle.bids.proofs.Walks.{pointAt}
 use Rattle.bids.proofs.Largest.{exposure-only}
 

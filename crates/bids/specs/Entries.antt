@@ -7,31 +7,12 @@ use Prim.Native.Nat.{ℕ}
 use lib.IntN.{ℤ, pos}
 use Rattle.refusals.specs.declared.Figure.{Figure}
 use Rattle.refusals.specs.declared.Figure.the-variants.{Cents, Refused}
-use Rattle.refusals.specs.Refusals.{Verdict, refuse, accept, judge, None, First}
+use Rattle.refusals.specs.Refusals.{Verdict, judge, None, First}
 use Rattle.kinds.specs.Kinds.{kindRow}
-pub use Rattle.bids.specs.declared.types.Bid.{Bid}
-pub use Rattle.bids.specs.declared.types.BidAnswer.{BidAnswer}
-use Rattle.bids.specs.declared.types.BidAnswer.the-variants.{Stands, Refused as BidRefused}
+use Rattle.refusals.specs.declared.Bid.{Bid}
 use Rattle.bids.specs.Points.{curve, Exposure}
 use Rattle.bids.specs.Rows.{pointRows, bidRows}
 use Rattle.bids.specs.Bids.{bidMwh, bidRequirement}
-
--- ---- the cases of an answer
-
-abbrev pub bidAnswer : Verdict Bid → BidAnswer
-bidAnswer (refuse n) = BidRefused n
-bidAnswer (accept bid) = Stands bid
-
--- 01, What is promised: the paper's number and values for each case; 0 is no refusal, and a refusal answers 0 besides
-abbrev pub bidRefusalOf : BidAnswer → ℕ
-bidRefusalOf (Stands bid) = 0
-bidRefusalOf (BidRefused n) = n
-
-abbrev pub bidOf : BidAnswer → Bid
-bidOf (Stands bid) = bid
-bidOf (BidRefused n) = record { mwh = 0; cents = pos 0 }
-
--- ---- the entries
 
 -- stage 1: bid MWh and requirement of a group
 unfoldable pub bidVerdict : ℕ → List ℕ → List ℤ → ℕ → Bool → Verdict Bid

@@ -4,9 +4,10 @@ use crate::points::largest_mwh;
 use crate::points::points_refusal;
 use crate::points::total_mwh;
 use crate::points::wheel_exposure;
-use crate::types::BidAnswer;
 use kinds::Kind;
 use kinds::unless_exempt;
+use refusals::Bid;
+use refusals::BidAnswer;
 use refusals::Figure;
 use refusals::or_else;
 use refusals::pick;
@@ -19,7 +20,8 @@ ghost use Rattle.kinds.specs.Kinds.{kindRow};
 ghost use Rattle.bids.specs.Points.{curve};
 ghost use Rattle.bids.specs.Rows.{pointRows, bidRows};
 ghost use Rattle.bids.specs.Bids.{importBid, exportBid, hourAheadBid, bidMwh, bidRequirement};
-ghost use Rattle.bids.specs.Entries.{bidVerdict, bidAnswer, Exposed};
+ghost use Rattle.refusals.specs.Answers.{bidAnswer};
+ghost use Rattle.bids.specs.Entries.{bidVerdict, Exposed};
 
 // Refusals 2 and 5 to 8, in the table's order; 0 is none.
 fn bid_refusal(kind: u64, mwh: &[u64], prices: &[i64], differential: u64) -> u64
@@ -87,7 +89,7 @@ pub fn bid(kind: u64, mwh: &[u64], prices: &[i64], differential: u64, exempt: bo
     if refusal != 0 {
         return BidAnswer::Refused(refusal);
     }
-    BidAnswer::Stands(crate::types::Bid {
+    BidAnswer::Stands(Bid {
         mwh: bid_mwh(kind, mwh, prices),
         cents: bid_requirement(kind, mwh, prices, differential, exempt),
     })

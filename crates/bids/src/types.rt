@@ -1,4 +1,4 @@
-// A point of a curve, and what a bid is answered.
+// A point of a curve.
 ghost use mathlib.Core.Path.{_≡_};
 ghost use mathlib.Core.Bool.{true};
 ghost use lib.IntN.{pos, negℤ, _*ℤ_};
@@ -6,7 +6,6 @@ ghost use Rattle.amounts.specs.Amount.{up};
 ghost use Rattle.amounts.specs.Limits.{isPrice};
 ghost use Rattle.bids.specs.Points.{share};
 ghost use Rattle.bids.specs.Rows.{isPointMwh};
-ghost use Rattle.bids.specs.Entries.{bidRefusalOf, bidOf};
 
 // One point of a bid curve: whole MWh, and cents per MWh.
 pub struct Point {
@@ -47,39 +46,5 @@ impl Point {
         ensures { λ r. ⌜ r ≡ negℤ (pos (self .mwh) *ℤ self .price) ⌝ }
     {
         -(self.mwh as i64 * self.price)
-    }
-}
-
-// A bid group: its bid MWh, and its requirement in cents.
-pub struct Bid {
-    pub mwh: u64,
-    pub cents: i64,
-}
-
-// A bid, or the number of the refusal.
-pub enum BidAnswer {
-    Stands(Bid),
-    Refused(u64),
-}
-
-impl BidAnswer {
-    // The number of the refusal; 0 is none.
-    pub fn refusal(self) -> u64
-        ensures { λ r. ⌜ r ≡ bidRefusalOf self ⌝ }
-    {
-        match self {
-            BidAnswer::Stands(_) => 0,
-            BidAnswer::Refused(number) => number,
-        }
-    }
-
-    // The bid; a refusal's is 0 throughout.
-    pub fn bid(self) -> Bid
-        ensures { λ r. ⌜ r ≡ bidOf self ⌝ }
-    {
-        match self {
-            BidAnswer::Stands(bid) => bid,
-            BidAnswer::Refused(_) => Bid { mwh: 0, cents: 0 },
-        }
     }
 }

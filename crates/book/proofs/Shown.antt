@@ -17,7 +17,7 @@ use Rattle.credit.specs.declared.types.Totals.{Totals}
 use Rattle.credit.specs.NoOverflow.{TotalsBounded}
 use Rattle.credit.specs.Credit.{suspended}
 use Rattle.book.specs.Books.{Book, lookup, sound, held, owed, totals, heldShown, owedShown, suspendedShown, heldAnswered, owedAnswered}
-use Rattle.endings.specs.declared.types.Answer.the-variants.{Refused}
+use Rattle.refusals.specs.declared.Answer.the-variants.{Refused}
 use Rattle.endings.specs.Endings.{pass}
 use Rattle.book.specs.Step.{outcome, step}
 use Rattle.book.proofs.Verdicts.{concluded, verdict-is}

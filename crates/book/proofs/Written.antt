@@ -39,7 +39,7 @@ use Rattle.credit.proofs.Parts.{owes-blank, unbilled-blank, totals-bounded}
 use Rattle.credit.proofs.Rows.{credit-rows-numbered}
 use Rattle.book.specs.Places.{swap}
 use Rattle.book.specs.Books.{Book, lookup, sound, held, owed, full, totals, heldAnswered, owedAnswered}
-use Rattle.endings.specs.declared.types.Answer.the-variants.{Accepted, Refused}
+use Rattle.refusals.specs.declared.Answer.the-variants.{Accepted, Refused}
 use Rattle.book.specs.Step.{Outcome, change, rebook, done, outcome, step}
 use Rattle.endings.specs.declared.types.View.{View}
 use Rattle.endings.specs.declared.types.Ending.{Ending}

@@ -15,7 +15,7 @@ use Rattle.messages.specs.declared.types.Deed.{Deed}
 use Rattle.messages.specs.declared.types.Deed.the-variants.{Keyed, SetSupport}
 use Rattle.records.specs.Records.{blank, isFree, at}
 use Rattle.messages.specs.Plan.{keyOf, deedFor}
-use Rattle.endings.specs.declared.types.Answer.the-variants.{Accepted, Refused}
+use Rattle.refusals.specs.declared.Answer.the-variants.{Accepted, Refused}
 pub use Rattle.book.specs.declared.types.Outcome.{Outcome}
 use Rattle.book.specs.Places.{swap}
 use Rattle.credit.specs.declared.types.Account.{Account}

@@ -8,9 +8,9 @@ use crate::types::Outcome;
 use amounts::Amount;
 use credit::types::Account;
 use credit::types::Totals;
-use endings::types::Answer;
 use messages::types::Funding;
 use records::types::Record;
+use refusals::Answer;
 
 impl Book {
     fn empty(support: i64) -> Book

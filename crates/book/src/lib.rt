@@ -4,7 +4,6 @@ mod fresh;
 pub mod types;
 
 pub use credit::types::Account;
-pub use endings::types::Answer;
 pub use kinds::Kind;
 pub use kinds::Stage;
 pub use messages::types::Billing;
@@ -15,5 +14,6 @@ pub use messages::types::Opening;
 pub use messages::types::Posting;
 pub use records::types::Key;
 pub use records::types::Record;
+pub use refusals::Answer;
 pub use types::Book;
 pub use types::Outcome;

@@ -1,7 +1,7 @@
 // One customer's book, and what a message to it answers.
 use credit::types::Account;
-use endings::types::Answer;
 use records::types::Record;
+use refusals::Answer;
 
 pub struct Book {
     // First, since the paths of proofs follow a field's position.

@@ -17,7 +17,7 @@ use Rattle.credit.proofs.Rows.{credit-rows-numbered}
 use Rattle.credit.specs.Credit.{creditRows}
 use Rattle.book.specs.declared.types.Book.{Book}
 use Rattle.book.specs.Books.{lookup, totals, heldAnswered, owedAnswered}
-use Rattle.endings.specs.Answers.{reply}
+use Rattle.refusals.specs.Answers.{reply}
 use Rattle.book.specs.Refusals.{table}
 use Rattle.book.proofs.Verdicts.{table-parts}
 use Rattle.book.specs.Step.{deedOf, verdict, outcome, step}

@@ -29,7 +29,7 @@ use Rattle.credit.specs.Credit.{creditRows, answeredBy}
 use Rattle.book.specs.declared.types.Book.{Book}
 use Rattle.book.specs.Places.{find, orElseBlank}
 use Rattle.book.specs.Books.{lookup, sound, full, totals}
-use Rattle.endings.specs.Answers.{reply}
+use Rattle.refusals.specs.Answers.{reply}
 use Rattle.book.proofs.Verdicts.{table-parts}
 use Rattle.book.specs.Step.{deedOf, done, step}
 use Rattle.book.proofs.Places.{count}

@@ -23,7 +23,7 @@ use Rattle.messages.proofs.Fits.{fits}
 use Rattle.book.specs.declared.types.Book.{Book}
 use Rattle.book.specs.Places.{find, missing, orElseBlank}
 use Rattle.book.specs.Books.{lookup, full, totals, noRecords, empty}
-use Rattle.endings.specs.Answers.{reply}
+use Rattle.refusals.specs.Answers.{reply}
 use Rattle.book.specs.Step.{deedOf, fresh, step}
 use Rattle.book.proofs.Kept.{lookup-under}
 use Rattle.demands.proofs.Accepted.{taken}

@@ -16,7 +16,7 @@ use Rattle.credit.specs.Account.{freshAccount}
 use Rattle.book.specs.declared.types.Book.{Book}
 use Rattle.book.specs.Books.{sound, distinct, noRecords, empty}
 use Rattle.book.specs.declared.types.Outcome.{Outcome}
-use Rattle.endings.specs.declared.types.Answer.the-variants.{Accepted, Refused}
+use Rattle.refusals.specs.declared.Answer.the-variants.{Accepted, Refused}
 use Rattle.book.specs.Step.{fresh, step, deedOf}
 use Rattle.book.proofs.Kept.{sound-make, done-sound}
 use Rattle.demands.specs.Runs.{replied, Sent, after}

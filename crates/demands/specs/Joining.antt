@@ -10,7 +10,7 @@ use Rattle.messages.specs.declared.types.Opening.{Opening}
 use Rattle.messages.specs.declared.types.Message.the-variants.{Open}
 use Rattle.book.specs.declared.types.Book.{Book}
 use Rattle.book.specs.Books.{lookup}
-use Rattle.endings.specs.Answers.{reply}
+use Rattle.refusals.specs.Answers.{reply}
 use Rattle.book.specs.Step.{step}
 
 -- the book b accepts the open, and the requirement that stands under its key is then `cents`

@@ -9,7 +9,7 @@ use Prim.Native.Nat.{ℕ}
 use lib.IntN.{ℤ, pos}
 use Rattle.refusals.specs.Refusals.{None, First}
 use Rattle.messages.specs.declared.types.Message.{Message}
-use Rattle.endings.specs.Answers.{Reply, reply}
+use Rattle.refusals.specs.Answers.{Reply, reply}
 use Rattle.book.specs.declared.types.Book.{Book}
 use Rattle.book.specs.declared.types.Outcome.{Outcome}
 use Rattle.book.specs.Books.{sound, held, owed}

@@ -4,7 +4,7 @@ use mathlib.Core.List.{List, [], _∷_}
 use Prim.Native.Nat.{ℕ}
 use lib.IntN.{ℤ}
 use Rattle.messages.specs.declared.types.Message.{Message}
-use Rattle.endings.specs.Answers.{Reply, reply}
+use Rattle.refusals.specs.Answers.{Reply, reply}
 use Rattle.book.specs.declared.types.Book.{Book}
 use Rattle.book.specs.declared.types.Outcome.{Outcome}
 use Rattle.book.specs.Step.{step}

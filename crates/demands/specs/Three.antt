@@ -14,7 +14,7 @@ use Rattle.messages.specs.declared.types.Message.the-variants.{Open, Revise, Wi
 use Rattle.messages.specs.Plan.{keyOf, opens}
 use Rattle.book.specs.declared.types.Book.{Book}
 use Rattle.book.specs.Books.{lookup, held, owed}
-use Rattle.endings.specs.Answers.{reply}
+use Rattle.refusals.specs.Answers.{reply}
 use Rattle.book.specs.Step.{fresh}
 use Rattle.demands.specs.Runs.{Sent, sentTo, after}
 

@@ -11,7 +11,7 @@ use lib.IntN.{ℤ, pos, _*ℤ_}
 use lib.Signed.{_≤ℤ_}
 use Rattle.amounts.specs.Lists.{total}
 use Rattle.kinds.specs.Kinds.{finishedStage, billedStage}
-use Rattle.bids.specs.declared.types.Bid.{Bid}
+use Rattle.refusals.specs.declared.Bid.{Bid}
 use Rattle.bids.specs.Points.{curve}
 use Rattle.bids.specs.Bids.{bidMwh, bidRequirement}
 use Rattle.formulas.specs.Stages.{postedRequirement, finishedRequirement}
@@ -24,7 +24,7 @@ use Rattle.messages.specs.declared.types.Opening.{Opening}
 use Rattle.messages.specs.declared.types.Funding.{Funding}
 use Rattle.messages.specs.Plan.{keyOf, openedRecord, postedRecord, laterRecord}
 use Rattle.credit.specs.Credit.{suspended}
-use Rattle.endings.specs.Answers.{Reply}
+use Rattle.refusals.specs.Answers.{Reply}
 use Rattle.book.specs.declared.types.Book.{Book}
 use Rattle.book.specs.Books.{lookup, sound, held, owed, totals, suspendedShown, empty}
 use Rattle.demands.specs.Runs.{nextBook, replied}

@@ -25,7 +25,8 @@ use Rattle.credit.specs.Account.{supported}
 use Rattle.credit.specs.Credit.{creditRows}
 use Rattle.credit.specs.Sums.{withRecord, withoutRecord, heldOf}
 use Rattle.credit.specs.NoOverflow.{SumsWithin}
-use Rattle.endings.specs.Answers.{Answer, Accepted, Refused}
+use Rattle.refusals.specs.declared.Answer.{Answer}
+use Rattle.refusals.specs.declared.Answer.the-variants.{Accepted, Refused}
 pub use Rattle.endings.specs.declared.types.View.{View}
 pub use Rattle.endings.specs.declared.types.Ending.{Ending}
 

@@ -4,7 +4,8 @@ ghost use mathlib.Core.Bool.{true};
 ghost use Rattle.records.specs.Records.{okPlace};
 ghost use Rattle.credit.specs.NoOverflow.{SumsWithin};
 ghost use Rattle.endings.specs.Endings.{Summable, asVerdict, viewOf, totalsOf, creditVerdict, unwritten, turnedAway, unsound, putIn, carriedOut, endingOf, ended};
-use crate::types::Answer;
+use crate::answers::accepting;
+use crate::answers::refusing;
 use crate::types::Ending;
 use crate::types::View;
 use amounts::Amount;
@@ -14,6 +15,7 @@ use messages::types::Change;
 use messages::types::Deed;
 use messages::types::Planned;
 use records::types::Record;
+use refusals::Answer;
 use walk::types::Walk;
 
 impl Ending {
@@ -69,7 +71,7 @@ impl View {
         ensures { λ e. ⌜ e ≡ turnedAway self number ⌝ }
     {
         let account = self.account;
-        Ending::unwritten(Answer::refusing(number, self.sums), account)
+        Ending::unwritten(refusing(number, self.sums), account)
     }
 
     // A record in another's stead.
@@ -83,7 +85,7 @@ impl View {
         let sums = self.sums;
         let next = sums.without(was).with(new);
         Ending {
-            answer: Answer::accepting(new.requirement, next),
+            answer: accepting(new.requirement, next),
             account,
             place,
             new,
@@ -107,7 +109,7 @@ impl View {
         ensures { λ e. ⌜ e ≡ carriedOut self (Deed.SetSupport support) ⌝ }
     {
         let account = self.account;
-        Ending::unwritten(Answer::accepting(0, self.sums), account.supported(support))
+        Ending::unwritten(accepting(0, self.sums), account.supported(support))
     }
 
     fn carried(self, deed: Deed) -> Ending

@@ -1,7 +1,8 @@
-// What a message sees of a book, how it ends, and what it answers.
+// What a message sees of a book, and how it ends.
 use credit::types::Account;
 use credit::types::Sums;
 use records::types::Record;
+use refusals::Answer;
 
 // All that a message sees of a book.
 pub struct View {
@@ -21,17 +22,4 @@ pub struct Ending {
     pub account: Account,
     pub place: u64,
     pub new: Record,
-}
-
-pub enum Answer {
-    Accepted {
-        requirement: i64,
-        held: i64,
-        owed: i64,
-    },
-    Refused {
-        number: u64,
-        held: i64,
-        owed: i64,
-    },
 }

@@ -10,9 +10,10 @@ use Rattle.refusals.specs.declared.Figure.{Figure}
 use Rattle.refusals.specs.declared.Figure.the-variants.{Cents, Refused}
 use Rattle.refusals.specs.Figures.{figure}
 use Rattle.kinds.specs.Kinds.{import, export, wheel}
-use Rattle.bids.specs.declared.types.BidAnswer.{BidAnswer}
-use Rattle.bids.specs.declared.types.BidAnswer.the-variants.{Stands, Refused as BidRefused}
-use Rattle.bids.specs.Entries.{bidAnswer, bidVerdict}
+use Rattle.refusals.specs.declared.BidAnswer.{BidAnswer}
+use Rattle.refusals.specs.declared.BidAnswer.the-variants.{Stands, Refused as BidRefused}
+use Rattle.refusals.specs.Answers.{bidAnswer}
+use Rattle.bids.specs.Entries.{bidVerdict}
 use Rattle.formulas.specs.Entries.{postedVerdict, finishedVerdict}
 
 -- what an example asks, its numbers in 01's order

@@ -1,6 +1,6 @@
 // The formulas at the limits of document 01's numbers and past them, one line each: what is asked, then the refusal's number or 0, and the amount.
-use bids::types::BidAnswer;
 use libc::STDOUT_FILENO;
+use refusals::BidAnswer;
 use refusals::Figure;
 
 const U64_MAX: u64 = 18_446_744_073_709_551_615;

@@ -11,7 +11,7 @@ use Rattle.amounts.specs.Limits.{isPrice, isNil, isBill, isSupport}
 use Rattle.refusals.specs.Refusals.{None, accept}
 use Rattle.refusals.proofs.Laws.{and-left, and-both, judge-accept}
 use Rattle.kinds.specs.Kinds.{bidStage, postedStage, finishedStage, billedStage, never as unposted, hasStage, bidMwhFits, differentialFits, pendingFits, rulesOf}
-use Rattle.bids.specs.declared.types.Bid.{Bid}
+use Rattle.refusals.specs.declared.Bid.{Bid}
 use Rattle.bids.proofs.Curves.{bid-bounded, mwh-bounded, fit-bid}
 use Rattle.formulas.proofs.StageLaws.{posted-bounded, finished-bounded}
 use Rattle.records.specs.declared.types.Key.{Key}

@@ -11,10 +11,11 @@ use Rattle.bids.specs.Bids.{bidMwh, bidRequirement}
 use Rattle.formulas.specs.Stages.{postedRequirement, finishedRequirement}
 use Rattle.bids.specs.Rows.{bidRows}
 use Rattle.formulas.specs.Rows.{postedRows, finishedRows}
-use Rattle.bids.specs.declared.types.Bid.{Bid}
+use Rattle.refusals.specs.declared.Bid.{Bid}
 use Rattle.refusals.specs.Figures.{centsOf, figure}
 use Rattle.kinds.specs.Kinds.{kindRow}
-use Rattle.bids.specs.Entries.{bidOf, bidAnswer, bidVerdict}
+use Rattle.refusals.specs.Answers.{bidOf, bidAnswer}
+use Rattle.bids.specs.Entries.{bidVerdict}
 use Rattle.formulas.specs.Entries.{postedVerdict, finishedVerdict}
 use Rattle.records.specs.declared.types.Record.{Record}
 use Rattle.messages.specs.Plan.{Opening, Posting, Finishing, Open, Revise, Post, Finish, bidFor, postedFor, finishedFor, planRows}

@@ -11,9 +11,10 @@ use Rattle.refusals.specs.Refusals.{Row, row, first, refuse, accept, answered, 
 use Rattle.refusals.proofs.Laws.{numbered, first-append, numbered-append}
 use Rattle.bids.specs.Rows.{bidRows}
 use Rattle.formulas.specs.Rows.{deliveryRows, billRows}
-use Rattle.bids.specs.declared.types.Bid.{Bid}
+use Rattle.refusals.specs.declared.Bid.{Bid}
 use Rattle.kinds.specs.Kinds.{isKind, kindRow, rulesOf, bidStage, billedStage}
-use Rattle.bids.specs.Entries.{bidRefusalOf, bidAnswer, bidVerdict}
+use Rattle.refusals.specs.Answers.{bidRefusalOf, bidAnswer}
+use Rattle.bids.specs.Entries.{bidVerdict}
 use Rattle.bids.proofs.Curves.{bid-rows-numbered}
 use Rattle.formulas.proofs.Numbered.{delivery-rows-numbered, bill-rows-numbered}
 use Rattle.records.specs.declared.types.Key.{Key}

@@ -11,9 +11,10 @@ use Rattle.refusals.specs.Refusals.{Row, row, Verdict, refuse, accept, judge}
 use Rattle.kinds.specs.Kinds.{rulesOf, bidStage, postedStage, finishedStage, billedStage}
 use Rattle.bids.specs.Rows.{bidRows}
 use Rattle.formulas.specs.Rows.{deliveryRows, billRows}
-use Rattle.bids.specs.declared.types.Bid.{Bid}
+use Rattle.refusals.specs.declared.Bid.{Bid}
 use Rattle.refusals.specs.Figures.{figure, centsOf}
-use Rattle.bids.specs.Entries.{bidAnswer, bidOf, bidVerdict}
+use Rattle.refusals.specs.Answers.{bidAnswer, bidOf}
+use Rattle.bids.specs.Entries.{bidVerdict}
 use Rattle.formulas.specs.Entries.{postedVerdict, finishedVerdict}
 pub use Rattle.messages.specs.declared.types.Message.{Message}
 pub use Rattle.messages.specs.declared.types.Opening.{Opening}

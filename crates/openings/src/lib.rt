@@ -1,7 +1,6 @@
 // What an open and a revise ask of the record under their key, or refusals 2 to 12. `old` is that record, blank where the key is not open.
 ghost use mathlib.Core.Path.{_≡_};
 ghost use Rattle.messages.specs.Plan.{openedRecord, plan, planned};
-use bids::types::Bid;
 use kinds::Kind;
 use kinds::Stage;
 use messages::answer;
@@ -12,6 +11,7 @@ use messages::types::Message;
 use messages::types::Opening;
 use messages::types::Planned;
 use records::types::Record;
+use refusals::Bid;
 use refusals::or_else;
 use refusals::pick;
 

@@ -2,7 +2,7 @@
 // program prints what the theorem is about.
 ghost use mathlib.Core.Path.{_≡_};
 ghost use Rattle.formulas.specs.Worked.{Ask, answer, asked};
-use bids::types::BidAnswer;
+use refusals::BidAnswer;
 use refusals::Figure;
 
 // The requirement of a bid alone, or its refusal.

@@ -4,7 +4,7 @@ use lib.IntN.{pos}
 use mir.Facts.{toZ-ofZ}
 use Rattle.amounts.specs.Limits.{isSupport}
 use Rattle.book.specs.Books.{empty}
-use Rattle.endings.specs.declared.types.Answer.the-variants.{Accepted, Refused}
+use Rattle.refusals.specs.declared.Answer.the-variants.{Accepted, Refused}
 use Rattle.book.specs.Step.{fresh}
 use Rattle.book.proofs.types.Book.fresh.Statement.{statement}
 use Rattle.book.proofs.types.Book.fresh.Tie as tie

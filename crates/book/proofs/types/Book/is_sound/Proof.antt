@@ -3,8 +3,8 @@ use mathlib.Core.Path.{_∙_, ap}
 use mathlib.Core.Bool.{not}
 use Prim.Native.Nat.{ℕ}
 use lib.Dec.{eqb}
-use Rattle.endings.specs.declared.types.Answer.{Answer}
-use Rattle.endings.specs.Answers.{reply}
+use Rattle.refusals.specs.declared.Answer.{Answer}
+use Rattle.refusals.specs.Answers.{reply}
 use Rattle.book.proofs.Shown.{sound-shown}
 use Rattle.book.proofs.types.Book.is_sound.Statement.{statement}
 use Rattle.book.proofs.types.Book.is_sound.Tie as tie

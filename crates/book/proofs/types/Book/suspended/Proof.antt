@@ -11,8 +11,8 @@ use mir.Facts.{toZ-ofZ}
 use Rattle.amounts.proofs.Steps.{back}
 use Rattle.credit.specs.NoOverflow.{TotalsBounded}
 use Rattle.credit.specs.Credit.{suspended}
-use Rattle.endings.specs.declared.types.Answer.{Answer}
-use Rattle.endings.specs.Answers.{reply}
+use Rattle.refusals.specs.declared.Answer.{Answer}
+use Rattle.refusals.specs.Answers.{reply}
 use Rattle.book.proofs.Shown.{shown, held-shown, owed-shown, suspended-shown, small-shown}
 use Rattle.book.proofs.types.Book.suspended.Statement.{statement}
 use Rattle.book.proofs.types.Book.suspended.Tie as tie

@@ -2,7 +2,7 @@
 use mathlib.Core.Path.{_∙_, ap}
 use native.Mathlib.Omega.{arith}
 use Rattle.credit.proofs.Parts.{sums-wider}
-use Rattle.endings.specs.Answers.{Answer}
+use Rattle.refusals.specs.declared.Answer.{Answer}
 use Rattle.endings.specs.Endings.{unwritten, turnedAway}
 use Rattle.endings.proofs.types.View.refused.Statement.{statement}
 use Rattle.endings.proofs.types.View.refused.Tie as tie

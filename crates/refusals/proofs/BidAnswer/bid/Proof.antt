@@ -1,8 +1,8 @@
 -- `BidAnswer::bid`: by the case.
 use mathlib.Core.Path.{sym, ap}
-use Rattle.bids.specs.Entries.{bidOf}
-use Rattle.bids.proofs.types.BidAnswer.bid.Statement.{statement}
-use Rattle.bids.proofs.types.BidAnswer.bid.Tie as tie
+use Rattle.refusals.specs.Answers.{bidOf}
+use Rattle.refusals.proofs.BidAnswer.bid.Statement.{statement}
+use Rattle.refusals.proofs.BidAnswer.bid.Tie as tie
 
 enum-known-self : tie.Need-enum-known-self
 enum-known-self c = search
