@@ -5,6 +5,7 @@ pub mod types;
 
 pub use credit::types::Account;
 pub use endings::types::Answer;
+pub use keys::Key;
 pub use kinds::Kind;
 pub use kinds::Stage;
 pub use messages::types::Billing;
@@ -13,7 +14,6 @@ pub use messages::types::Funding;
 pub use messages::types::Message;
 pub use messages::types::Opening;
 pub use messages::types::Posting;
-pub use records::types::Key;
 pub use records::types::Record;
 pub use types::Book;
 pub use types::Outcome;
