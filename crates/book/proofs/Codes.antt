@@ -12,10 +12,12 @@ use borrow.Author.Tests.{eqb-true, eqb-false, ne-eqb}
 use Rattle.amounts.specs.Limits.{isSupport}
 use Rattle.amounts.specs.Lists.{every}
 use Rattle.refusals.proofs.Laws.{and-left, and-right, never}
-use Rattle.records.specs.declared.types.Key.{Key}
+use Rattle.keys.specs.declared.Key.{Key}
+use Rattle.keys.specs.Keys.{sameKey, keyFits}
 use Rattle.records.specs.declared.types.Record.{Record}
-use Rattle.records.specs.Records.{blank, isFree, sameKey, at, keyFits, okPlace}
-use Rattle.records.proofs.Keys.{key-bounds, sameKey-eq, sameKey-refl, free-blank, at-blank, place-free, place-used}
+use Rattle.records.specs.Records.{blank, isFree, at, okPlace}
+use Rattle.keys.proofs.Laws.{key-bounds, sameKey-eq, sameKey-refl}
+use Rattle.records.proofs.Places.{free-blank, at-blank, place-free, place-used}
 use Rattle.records.proofs.Clauses.{clauses}
 use Rattle.distinct.specs.Numbers.{standsIn, allDistinct}
 use Rattle.book.specs.Places.{find, missing}

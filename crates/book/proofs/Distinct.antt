@@ -8,10 +8,10 @@ use Prim.Native.Nat.{_+_, _≤_, zero-le}
 use native.Mathlib.Omega.{arith}
 use Rattle.amounts.specs.Lists.{sum}
 use Rattle.refusals.proofs.Laws.{and-left, and-right, and-both, never}
-use Rattle.records.specs.declared.types.Key.{Key}
+use Rattle.keys.specs.declared.Key.{Key}
 use Rattle.records.specs.declared.types.Record.{Record}
 use Rattle.records.specs.Records.{isFree, at}
-use Rattle.records.proofs.Keys.{at-key, at-used, at-own}
+use Rattle.records.proofs.Places.{at-key, at-used, at-own}
 use Rattle.book.specs.Places.{find, missing}
 use Rattle.book.specs.Books.{distinct}
 use Rattle.book.proofs.Places.{count, bit, find-count, count-find}

@@ -9,7 +9,7 @@ use Rattle.amounts.specs.Limits.{isSupport}
 use Rattle.amounts.specs.Lists.{every}
 use Rattle.refusals.specs.Refusals.{None}
 use Rattle.refusals.proofs.Laws.{and-left, and-right, and-both, never}
-use Rattle.records.specs.declared.types.Key.{Key}
+use Rattle.keys.specs.declared.Key.{Key}
 use Rattle.records.specs.declared.types.Record.{Record}
 use Rattle.messages.specs.declared.types.Message.{Message}
 use Rattle.messages.specs.declared.types.Change.{Change}
@@ -18,7 +18,7 @@ use Rattle.messages.specs.declared.types.Deed.{Deed}
 use Rattle.messages.specs.declared.types.Deed.the-variants.{Keyed, SetSupport}
 use Rattle.records.specs.Records.{blank, isFree, at, okPlace}
 use Rattle.messages.specs.Plan.{keyOf}
-use Rattle.records.proofs.Keys.{at-key, at-used, free-blank, place-used}
+use Rattle.records.proofs.Places.{at-key, at-used, free-blank, place-used}
 use Rattle.messages.proofs.Fits.{Under, Fits}
 use Rattle.credit.specs.declared.types.Account.{Account}
 use Rattle.credit.specs.Account.{supported}

@@ -16,7 +16,7 @@ use Rattle.amounts.proofs.Walks.{drop-back}
 use Rattle.refusals.proofs.Laws.{and-left, and-right}
 use Rattle.records.specs.declared.types.Record.{Record}
 use Rattle.records.specs.Records.{blank, okPlace}
-use Rattle.records.proofs.Keys.{ok-blank}
+use Rattle.records.proofs.Places.{ok-blank}
 use Rattle.credit.specs.declared.types.Sums.{Sums}
 use Rattle.credit.specs.Credit.{owes}
 use Rattle.credit.specs.Sums.{unbilledOf, heldOf}

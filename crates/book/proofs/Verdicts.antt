@@ -15,7 +15,7 @@ use Rattle.messages.specs.declared.types.Deed.{Deed}
 use Rattle.messages.specs.declared.types.Message.the-variants.{Open, Revise, Withdraw, Post, Finish, Bill, Pay, Support}
 use Rattle.bids.specs.Rows.{pointRows, bidRows}
 use Rattle.formulas.specs.Rows.{deliveryRows, billRows}
-use Rattle.records.specs.Records.{keyRows}
+use Rattle.keys.specs.Keys.{keyRows}
 use Rattle.messages.specs.Plan.{keyOf, stageRows, planRows, plan}
 use Rattle.messages.proofs.Fits.{plan-rows-numbered}
 use Rattle.credit.specs.Credit.{creditRows}

@@ -12,7 +12,7 @@ use lib.Seq.{drop-length}
 use borrow.Author.Tests.{ltb-true, ltb-false}
 use Rattle.amounts.specs.Lists.{sum, total, every}
 use Rattle.refusals.proofs.Laws.{never}
-use Rattle.records.specs.declared.types.Key.{Key}
+use Rattle.keys.specs.declared.Key.{Key}
 use Rattle.records.specs.declared.types.Record.{Record}
 use Rattle.records.specs.Records.{blank, isFree, at, okPlace}
 use Rattle.credit.specs.declared.types.Sums.{Sums}

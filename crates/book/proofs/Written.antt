@@ -22,10 +22,10 @@ use Rattle.messages.specs.declared.types.Deed.{Deed}
 use Rattle.messages.specs.declared.types.Deed.the-variants.{Keyed, SetSupport}
 use Rattle.messages.specs.declared.types.Planned.{Planned}
 use Rattle.messages.specs.declared.types.Planned.the-variants.{Refused as Turned, Asks}
-use Rattle.records.specs.declared.types.Key.{Key}
+use Rattle.keys.specs.declared.Key.{Key}
 use Rattle.records.specs.declared.types.Record.{Record}
 use Rattle.records.specs.Records.{blank, isFree, at, okPlace}
-use Rattle.records.proofs.Keys.{ok-place, ok-blank}
+use Rattle.records.proofs.Places.{ok-place, ok-blank}
 use Rattle.records.proofs.Bounds.{requirement-bounded}
 use Rattle.messages.specs.Plan.{keyOf, plan, planned}
 use Rattle.messages.proofs.Fits.{Fits, fits}

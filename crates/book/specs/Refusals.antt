@@ -14,7 +14,8 @@ use Rattle.amounts.specs.Lists.{every}
 use Rattle.refusals.specs.Refusals.{Row, row}
 use Rattle.kinds.specs.Kinds.{bidStage, billedStage, isKind, rulesOf, isPath, differentialFits, pricesFit}
 use Rattle.bids.specs.Rows.{isPointMwh}
-use Rattle.records.specs.Records.{isHour, isFree}
+use Rattle.keys.specs.Keys.{isHour}
+use Rattle.records.specs.Records.{isFree}
 use Rattle.messages.specs.declared.types.Message.{Message}
 use Rattle.messages.specs.declared.types.Message.the-variants.{Open, Revise, Withdraw, Post, Finish, Bill, Pay, Support}
 use Rattle.messages.specs.Plan.{bidFor}

@@ -7,13 +7,13 @@ use crate::types::Outcome;
 use dispatch::key_of;
 use dispatch::plan_of;
 use endings::types::View;
+use keys::Key;
 use messages::types::Billing;
 use messages::types::Finishing;
 use messages::types::Funding;
 use messages::types::Message;
 use messages::types::Opening;
 use messages::types::Posting;
-use records::types::Key;
 use walk::code;
 use walk::types::Walk;
 

@@ -4,6 +4,7 @@ mod fresh;
 pub mod types;
 
 pub use credit::types::Account;
+pub use keys::Key;
 pub use kinds::Kind;
 pub use kinds::Stage;
 pub use messages::types::Billing;
@@ -12,7 +13,6 @@ pub use messages::types::Funding;
 pub use messages::types::Message;
 pub use messages::types::Opening;
 pub use messages::types::Posting;
-pub use records::types::Key;
 pub use records::types::Record;
 pub use refusals::Answer;
 pub use types::Book;

@@ -13,10 +13,12 @@ use Rattle.amounts.specs.Lists.{total}
 use Rattle.amounts.proofs.Signed.{signed, tested, sum-of}
 use Rattle.refusals.specs.Refusals.{None}
 use Rattle.refusals.proofs.Laws.{never, none-join}
-use Rattle.records.specs.declared.types.Key.{Key}
+use Rattle.keys.specs.declared.Key.{Key}
+use Rattle.keys.specs.Keys.{sameKey}
 use Rattle.records.specs.declared.types.Record.{Record}
-use Rattle.records.specs.Records.{blank, sameKey, at}
-use Rattle.records.proofs.Keys.{sameKey-eq, sameKey-refl, free-blank}
+use Rattle.records.specs.Records.{blank, at}
+use Rattle.keys.proofs.Laws.{sameKey-eq, sameKey-refl}
+use Rattle.records.proofs.Places.{free-blank}
 use Rattle.messages.specs.declared.types.Message.{Message}
 use Rattle.messages.specs.declared.types.Message.the-variants.{Open, Revise, Withdraw, Post, Finish, Bill, Pay, Support}
 use Rattle.messages.specs.declared.types.Change.{Change}

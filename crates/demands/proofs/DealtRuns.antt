@@ -6,8 +6,8 @@ use mathlib.Core.List.{List, [], _∷_}
 use lib.IntN.{ℤ}
 use Rattle.amounts.proofs.Signed.{tested}
 use Rattle.refusals.proofs.Laws.{never}
-use Rattle.records.specs.declared.types.Key.{Key}
-use Rattle.records.specs.Records.{sameKey}
+use Rattle.keys.specs.declared.Key.{Key}
+use Rattle.keys.specs.Keys.{sameKey}
 use Rattle.messages.specs.declared.types.Funding.{Funding}
 use Rattle.messages.specs.declared.types.Message.{Message}
 use Rattle.messages.specs.declared.types.Message.the-variants.{Open, Revise, Withdraw, Post, Finish, Bill, Pay, Support}

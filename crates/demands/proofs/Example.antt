@@ -16,8 +16,9 @@ use Rattle.bids.specs.Points.{largestMwh, totalMwh, mwhAt, tried, exposure, whe
 use Rattle.formulas.specs.Rows.{deliveryRows, postedRows, finishedRows, billRows}
 use Rattle.formulas.specs.Stages.{importPosted, balancing, importFinished, exportPosted, exportFinished, hourAheadFinished, wheelPosted, wheelFinished, postedRequirement, finishedRequirement}
 use Rattle.formulas.specs.Entries.{postedVerdict, finishedVerdict}
-use Rattle.records.specs.declared.types.Key.{Key}
-use Rattle.records.specs.Records.{isBlank, isFree, sameKey, at, keeps, okRecord, okPlace, keyRows}
+use Rattle.keys.specs.declared.Key.{Key}
+use Rattle.keys.specs.Keys.{sameKey, keyRows}
+use Rattle.records.specs.Records.{isBlank, isFree, at, keeps, okRecord, okPlace}
 use Rattle.messages.specs.declared.types.Message.{Message}
 use Rattle.messages.specs.declared.types.Message.the-variants.{Open, Post, Finish, Bill, Pay, Support}
 use Rattle.messages.specs.Plan.{bidFor, postedFor, finishedFor, stageRows}

@@ -10,10 +10,10 @@ use lib.ListN.{length, replicate, length-replicate}
 use Rattle.amounts.specs.Limits.{isSupport}
 use Rattle.amounts.specs.Lists.{sum, total}
 use Rattle.amounts.proofs.Signed.{tested}
-use Rattle.records.specs.declared.types.Key.{Key}
+use Rattle.keys.specs.declared.Key.{Key}
 use Rattle.records.specs.declared.types.Record.{Record}
 use Rattle.records.specs.Records.{blank, at}
-use Rattle.records.proofs.Keys.{at-blank}
+use Rattle.records.proofs.Places.{at-blank}
 use Rattle.book.specs.declared.types.Book.{Book}
 use Rattle.book.specs.Books.{totals, noRecords, empty}
 use Rattle.book.specs.Step.{fresh}

@@ -13,9 +13,10 @@ use Rattle.bids.specs.Rows.{bidRows}
 use Rattle.bids.specs.Bids.{bidRequirement}
 use Rattle.bids.specs.Joining.{isExport, Joined}
 use Rattle.bids.proofs.Joining.{joining}
+use Rattle.keys.specs.Keys.{keyRows}
 use Rattle.records.specs.declared.types.Record.{Record}
-use Rattle.records.specs.Records.{blank, isFree, keyRows}
-use Rattle.records.proofs.Keys.{free-blank}
+use Rattle.records.specs.Records.{blank, isFree}
+use Rattle.records.proofs.Places.{free-blank}
 use Rattle.messages.specs.declared.types.Opening.{Opening}
 use Rattle.messages.specs.declared.types.Message.the-variants.{Open}
 use Rattle.messages.specs.Plan.{planRows, plan}

@@ -9,9 +9,10 @@ use lib.IntN.{ℤ}
 use Rattle.refusals.specs.Refusals.{None}
 use Rattle.refusals.proofs.Laws.{never}
 use Rattle.kinds.specs.Kinds.{finishedStage}
-use Rattle.records.specs.declared.types.Key.{Key}
+use Rattle.keys.specs.declared.Key.{Key}
+use Rattle.keys.specs.Keys.{sameKey, keyFits}
 use Rattle.records.specs.declared.types.Record.{Record}
-use Rattle.records.specs.Records.{blank, sameKey, keyFits}
+use Rattle.records.specs.Records.{blank}
 use Rattle.records.proofs.Clauses.{clauses}
 use Rattle.messages.specs.declared.types.Message.{Message}
 use Rattle.messages.specs.declared.types.Message.the-variants.{Open, Revise, Withdraw, Post, Finish, Bill, Pay, Support}

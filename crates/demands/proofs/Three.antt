@@ -5,10 +5,11 @@ use mathlib.Core.Bool.{Bool, true, false, cond, _&&_, Bool·beq}
 use mathlib.Core.List.{List, [], _∷_, _++_}
 use mathlib.Core.Option.{Option, none}
 use lib.IntN.{ℤ, pos}
-use Rattle.records.specs.declared.types.Key.{Key}
+use Rattle.keys.specs.declared.Key.{Key}
+use Rattle.keys.specs.Keys.{sameKey}
 use Rattle.records.specs.declared.types.Record.{Record}
-use Rattle.records.specs.Records.{blank, sameKey}
-use Rattle.records.proofs.Keys.{sameKey-eq}
+use Rattle.records.specs.Records.{blank}
+use Rattle.keys.proofs.Laws.{sameKey-eq}
 use Rattle.messages.specs.Plan.{keyOf, opens}
 use Rattle.credit.specs.Credit.{owes}
 use Rattle.book.specs.declared.types.Book.{Book}

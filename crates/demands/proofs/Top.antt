@@ -11,7 +11,7 @@ use Rattle.amounts.proofs.Signed.{signed, tested, sum-of, difference-of, times-
 use Rattle.refusals.specs.Refusals.{None}
 use Rattle.records.specs.declared.types.Record.{Record}
 use Rattle.records.specs.Records.{at, okPlace}
-use Rattle.records.proofs.Keys.{ok-place}
+use Rattle.records.proofs.Places.{ok-place}
 use Rattle.records.proofs.Bounds.{requirement-bounded}
 use Rattle.messages.specs.declared.types.Message.{Message}
 use Rattle.messages.specs.declared.types.Change.the-variants.{Add, Rebid, Advance, Remove}

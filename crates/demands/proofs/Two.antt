@@ -13,7 +13,7 @@ use Rattle.amounts.proofs.Signed.{tested}
 use Rattle.refusals.proofs.Laws.{and-left, and-right}
 use Rattle.records.specs.declared.types.Record.{Record}
 use Rattle.records.specs.Records.{isFree, okPlace}
-use Rattle.records.proofs.Keys.{place-free}
+use Rattle.records.proofs.Places.{place-free}
 use Rattle.messages.specs.declared.types.Message.{Message}
 use Rattle.messages.specs.declared.types.Message.the-variants.{Open, Revise, Withdraw, Post, Finish, Bill, Pay, Support}
 use Rattle.messages.specs.declared.types.Funding.{Funding}

@@ -13,8 +13,8 @@ use Rattle.refusals.specs.Refusals.{Row, first}
 use Rattle.refusals.proofs.Laws.{and-left, and-right, and-both, never}
 use Rattle.bids.specs.Rows.{pointRows, bidRows}
 use Rattle.formulas.specs.Rows.{deliveryRows, billRows}
+use Rattle.keys.specs.Keys.{keyRows}
 use Rattle.records.specs.declared.types.Record.{Record}
-use Rattle.records.specs.Records.{keyRows}
 use Rattle.messages.specs.declared.types.Message.{Message}
 use Rattle.messages.specs.declared.types.Message.the-variants.{Open, Revise, Withdraw, Post, Finish, Bill, Pay, Support}
 use Rattle.messages.specs.declared.types.Change.the-variants.{Add, Rebid, Advance, Remove}

@@ -7,8 +7,9 @@ use mathlib.Core.Bool.{Bool, true, false, cond, _&&_, Bool·beq}
 use mathlib.Core.List.{List, [], _∷_}
 use Prim.Native.Nat.{ℕ}
 use lib.IntN.{ℤ, pos, _+ℤ_}
-use Rattle.records.specs.declared.types.Key.{Key}
-use Rattle.records.specs.Records.{blank, sameKey}
+use Rattle.keys.specs.declared.Key.{Key}
+use Rattle.keys.specs.Keys.{sameKey}
+use Rattle.records.specs.Records.{blank}
 use Rattle.messages.specs.declared.types.Message.{Message}
 use Rattle.messages.specs.declared.types.Message.the-variants.{Open, Revise, Withdraw, Post, Finish, Bill, Pay, Support}
 use Rattle.messages.specs.Plan.{keyOf, opens}

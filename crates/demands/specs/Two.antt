@@ -15,9 +15,10 @@ use Rattle.refusals.specs.declared.Bid.{Bid}
 use Rattle.bids.specs.Points.{curve}
 use Rattle.bids.specs.Bids.{bidMwh, bidRequirement}
 use Rattle.formulas.specs.Stages.{postedRequirement, finishedRequirement}
-use Rattle.records.specs.declared.types.Key.{Key}
+use Rattle.keys.specs.declared.Key.{Key}
+use Rattle.keys.specs.Keys.{sameKey}
 use Rattle.records.specs.declared.types.Record.{Record}
-use Rattle.records.specs.Records.{blank, isFree, sameKey}
+use Rattle.records.specs.Records.{blank, isFree}
 use Rattle.messages.specs.declared.types.Message.{Message}
 use Rattle.messages.specs.declared.types.Message.the-variants.{Open, Revise, Withdraw, Post, Finish, Bill, Pay, Support}
 use Rattle.messages.specs.declared.types.Opening.{Opening}

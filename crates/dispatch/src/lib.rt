@@ -1,9 +1,9 @@
 // The eight messages as one: the key that any of them has, and what it asks of the record under it.
 ghost use mathlib.Core.Path.{_≡_};
 ghost use Rattle.messages.specs.Plan.{keyOf, plan, planned};
+use keys::Key;
 use messages::types::Message;
 use messages::types::Planned;
-use records::types::Key;
 use records::types::Record;
 
 // A support change has no key; that of a free place stands for it, and no record is under it.

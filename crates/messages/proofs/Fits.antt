@@ -14,11 +14,12 @@ use Rattle.kinds.specs.Kinds.{bidStage, postedStage, finishedStage, billedStage
 use Rattle.refusals.specs.declared.Bid.{Bid}
 use Rattle.bids.proofs.Curves.{bid-bounded, mwh-bounded, fit-bid}
 use Rattle.formulas.proofs.StageLaws.{posted-bounded, finished-bounded}
-use Rattle.records.specs.declared.types.Key.{Key}
+use Rattle.keys.specs.declared.Key.{Key}
+use Rattle.keys.specs.Keys.{keyFits}
 use Rattle.records.specs.declared.types.Record.{Record}
-use Rattle.records.specs.Records.{isFree, implies, keyFits, requirementFits, okRecord}
+use Rattle.records.specs.Records.{isFree, implies, requirementFits, okRecord}
 use Rattle.messages.specs.Plan.{Message, Opening, Posting, Finishing, Deed, Open, Revise, Withdraw, Post, Finish, Bill, Pay, Support, Add, Rebid, Advance, Remove, Keyed, SetSupport, openedRecord, postedRecord, laterRecord, bidFor, postedFor, finishedFor, keyOf, opens, deedFor, planRows, plan}
-use Rattle.records.proofs.Keys.{key-kind}
+use Rattle.keys.proofs.Laws.{key-kind}
 use Rattle.records.proofs.Made.{bid-ok, advanced-ok}
 use Rattle.messages.proofs.Stages.{finished-next, billed-next}
 use Rattle.messages.proofs.Passed.{BidPassed, Stands, PostPassed, FinishPassed, open-passed, revise-passed, stage-passed, post-passed, finish-passed, bill-passed}

@@ -15,14 +15,15 @@ use Rattle.refusals.proofs.Laws.{never, and-left, and-both, none-split}
 use Rattle.kinds.specs.Kinds.{isKind, kindRow, isPath, bidMwhFits, pricesFit, hasStage, rulesOf, bidStage, postedStage, never as unposted}
 use Rattle.bids.specs.Rows.{bidRows}
 use Rattle.formulas.specs.Rows.{deliveryRows, postedRows, finishedRows, billRows}
-use Rattle.records.specs.declared.types.Key.{Key}
+use Rattle.keys.specs.declared.Key.{Key}
+use Rattle.keys.specs.Keys.{isHour, keyFits, keyRows}
 use Rattle.records.specs.declared.types.Record.{Record}
-use Rattle.records.specs.Records.{blank, isFree, at, okPlace, isHour, keyFits, implies, okRecord}
-use Rattle.records.specs.Records.{keyRows}
+use Rattle.records.specs.Records.{blank, isFree, at, okPlace, implies, okRecord}
 use Rattle.messages.specs.Plan.{Opening, Posting, Finishing, Open, Revise, Post, Finish, stageRows, planRows}
 use Rattle.kinds.proofs.Fits.{prices as priced}
 use Rattle.records.proofs.Clauses.{Clauses, clauses}
-use Rattle.records.proofs.Keys.{key-kind, free-blank, at-key, at-used, place-used}
+use Rattle.keys.proofs.Laws.{key-kind}
+use Rattle.records.proofs.Places.{free-blank, at-key, at-used, place-used}
 use Rattle.records.proofs.Bounds.{pending-fits}
 use Rattle.messages.proofs.Stages.{posted-next, finished-from, mwh-quantity, schedule-fits}
 

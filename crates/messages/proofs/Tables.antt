@@ -17,10 +17,10 @@ use Rattle.refusals.specs.Answers.{bidRefusalOf, bidAnswer}
 use Rattle.bids.specs.Entries.{bidVerdict}
 use Rattle.bids.proofs.Curves.{bid-rows-numbered}
 use Rattle.formulas.proofs.Numbered.{delivery-rows-numbered, bill-rows-numbered}
-use Rattle.records.specs.declared.types.Key.{Key}
+use Rattle.keys.specs.declared.Key.{Key}
+use Rattle.keys.specs.Keys.{keyRows}
 use Rattle.records.specs.declared.types.Record.{Record}
 use Rattle.records.specs.Records.{isFree}
-use Rattle.records.specs.Records.{keyRows}
 use Rattle.messages.specs.Plan.{Message, Opening, Open, Revise, Withdraw, Post, Finish, Bill, Pay, Support, stageRows, planRows}
 
 -- ---- no row has the number 0

@@ -27,9 +27,10 @@ pub use Rattle.messages.specs.declared.types.Message.the-variants.{Open,
 pub use Rattle.messages.specs.declared.types.Change.the-variants.{Add, Rebid, Advance, Remove}
 pub use Rattle.messages.specs.declared.types.Deed.the-variants.{Keyed, SetSupport}
 use Rattle.messages.specs.declared.types.Planned.the-variants.{Refused, Asks}
-use Rattle.records.specs.declared.types.Key.{Key}
+use Rattle.keys.specs.declared.Key.{Key}
+use Rattle.keys.specs.Keys.{keyRows}
 use Rattle.records.specs.declared.types.Record.{Record}
-use Rattle.records.specs.Records.{blank, bidRecord, advanced, isFree, keyRows}
+use Rattle.records.specs.Records.{blank, bidRecord, advanced, isFree}
 
 -- ---- the record of each stage
 

@@ -1,5 +1,5 @@
 // The eight messages, and what a message asks for.
-use records::types::Key;
+use keys::Key;
 use records::types::Record;
 
 // Open and revise; the points stand beside it in two lent lists.

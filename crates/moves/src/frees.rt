@@ -2,6 +2,7 @@
 ghost use mathlib.Core.Path.{_≡_};
 ghost use mathlib.Core.List.{[]};
 ghost use Rattle.messages.specs.Plan.{plan, planned};
+use keys::Key;
 use kinds::Stage;
 use messages::answer;
 use messages::stage_refusal;
@@ -9,7 +10,6 @@ use messages::types::Change;
 use messages::types::Deed;
 use messages::types::Message;
 use messages::types::Planned;
-use records::types::Key;
 use records::types::Record;
 use refusals::or_else;
 

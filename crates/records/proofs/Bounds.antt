@@ -16,7 +16,7 @@ use Rattle.kinds.proofs.Fits.{pending-wide}
 use Rattle.refusals.proofs.Laws.{and-left, and-right}
 use Rattle.records.specs.Records.{Record, blank, isBlank, implies, requirementFits, okRecord, okPlace}
 use Rattle.records.proofs.Clauses.{either, implied, clauses}
-use Rattle.records.proofs.Keys.{stage-bounds, blank-eq}
+use Rattle.records.proofs.Places.{stage-bounds, blank-eq}
 
 module _ (kind stage : ℕ) (z : ℤ) (h : requirementFits (rulesOf kind) stage z ≡ true) where
   abbrev pending : Bool

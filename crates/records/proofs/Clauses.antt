@@ -6,7 +6,8 @@ use mathlib.Core.Logic.{_⊎_, inl, inr}
 use Rattle.refusals.proofs.Laws.{never, and-left, and-right}
 use Rattle.kinds.specs.declared.Rules.{Rules}
 use Rattle.kinds.specs.Kinds.{hasStage, bidMwhFits, differentialFits, rulesOf}
-use Rattle.records.specs.Records.{Record, implies, keyFits, scheduleFits, dayAheadFits, exemptFits, requirementFits, keeps, okRecord}
+use Rattle.keys.specs.Keys.{keyFits}
+use Rattle.records.specs.Records.{Record, implies, scheduleFits, dayAheadFits, exemptFits, requirementFits, keeps, okRecord}
 
 -- ---- tests
 pub either : (a b : Bool) → (a || b) ≡ true → (a ≡ true) ⊎ (b ≡ true)

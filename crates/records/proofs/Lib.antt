@@ -1,4 +1,4 @@
 pub mod Clauses
-pub mod Keys
+pub mod Places
 pub mod Bounds
 pub mod Made

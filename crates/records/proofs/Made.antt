@@ -6,7 +6,9 @@ use Prim.Native.Nat.{ℕ}
 use lib.Dec.{leb, leb·zero}
 use lib.IntN.{ℤ}
 use Rattle.kinds.specs.Kinds.{bidStage, postedStage, hasStage, bidMwhFits, differentialFits, pendingFits, rulesOf}
-use Rattle.records.specs.Records.{Key, Record, bidRecord, advanced, keyFits, scheduleFits, dayAheadFits, exemptFits, requirementFits, okRecord}
+use Rattle.keys.specs.declared.Key.{Key}
+use Rattle.keys.specs.Keys.{keyFits}
+use Rattle.records.specs.Records.{Record, bidRecord, advanced, scheduleFits, dayAheadFits, exemptFits, requirementFits, okRecord}
 use Rattle.records.proofs.Clauses.{or-right, Clauses, sound}
 
 and-true : (a : Bool) → a ≡ true → (a && true && true) ≡ true

@@ -5,11 +5,10 @@ use Prim.Native.Nat.{ℕ}
 use lib.Dec.{leb, eqb}
 use lib.IntN.{ℤ, pos}
 use Rattle.amounts.specs.Limits.{isPrice, isNil, isBill, isFinished}
-use mathlib.Core.List.{List, [], _∷_}
-use Rattle.refusals.specs.Refusals.{Row, row}
 use Rattle.kinds.specs.declared.Rules.{Rules}
-use Rattle.kinds.specs.Kinds.{isKind, isPath, hasStage, bidMwhFits, differentialFits, pendingFits, rulesOf, bidStage, postedStage, finishedStage, billedStage, never, kindRow}
-pub use Rattle.records.specs.declared.types.Key.{Key}
+use Rattle.kinds.specs.Kinds.{hasStage, bidMwhFits, differentialFits, pendingFits, rulesOf, bidStage, postedStage, finishedStage, billedStage, never}
+use Rattle.keys.specs.declared.Key.{Key}
+use Rattle.keys.specs.Keys.{sameKey, keyFits}
 pub use Rattle.records.specs.declared.types.Record.{Record}
 
 -- 01: 'a free place is zero throughout'
@@ -63,9 +62,6 @@ isBlank r =
 unfoldable pub isFree : Record → Bool
 isFree r = eqb (r .stage) 0
 
-unfoldable pub sameKey : Key → Key → Bool
-sameKey k l = eqb (k .kind) (l .kind) && eqb (k .path) (l .path) && eqb (k .hour) (l .hour)
-
 -- the record stands open under this key
 unfoldable pub at : Key → Record → Bool
 at k r = not (isFree r) && sameKey k (r .key)
@@ -74,13 +70,6 @@ at k r = not (isFree r) && sameKey k (r .key)
 
 abbrev pub implies : Bool → Bool → Bool
 implies a b = not a || b
-
--- 'hour (0 to 999,999)'
-abbrev pub isHour : ℕ → Bool
-isHour hour = leb hour 999999
-
-abbrev pub keyFits : Key → Bool
-keyFits k = isKind (k .kind) && isPath (rulesOf (k .kind)) (k .path) && isHour (k .hour)
 
 -- 'schedule is at most bid MWh and 0 at stage 1 and for kind 3', which is never posted
 abbrev pub scheduleFits : Rules → Record → Bool
@@ -113,9 +102,3 @@ okRecord r = keyFits (r .key) && keeps (rulesOf (r .key .kind)) r
 -- a place: free and zero, or such a record
 unfoldable pub okPlace : Record → Bool
 okPlace r = isBlank r || okRecord r
-
--- ---- the rows of the table of refusals that concern a key
-
--- 2 'kind not 1 to 4', 3 'path out of range', 4 'hour out of range'
-unfoldable pub keyRows : Key → List Row
-keyRows k = kindRow (k .kind) ∷ row 3 (not (isPath (rulesOf (k .kind)) (k .path))) ∷ row 4 (not (isHour (k .hour))) ∷ []

@@ -1,3 +1,3 @@
-// One transaction: its key and record, and when it is sound.
+// One transaction: its record, and when it is sound.
 pub mod records;
 pub mod types;

@@ -1,17 +1,14 @@
-// One key and one record: how a record is made, and the tests, straight-line expressions, clause by clause as document 01 lists them.
+// One record: how it is made, and the tests, straight-line expressions, clause by clause as document 01 lists them.
 ghost use mathlib.Core.Path.{_≡_};
-ghost use Rattle.refusals.specs.Refusals.{first};
-ghost use Rattle.kinds.specs.Kinds.{isKind, isPath, rulesOf};
-ghost use Rattle.records.specs.Records.{blank, bidRecord, advanced, isBlank, isFree, sameKey, at, isHour, keyFits, keyRows};
+ghost use Rattle.records.specs.Records.{blank, bidRecord, advanced, isBlank, isFree, at};
 ghost use Rattle.records.specs.Records.{scheduleFits, dayAheadFits, exemptFits, requirementFits, keeps, okRecord, okPlace};
-use crate::types::Key;
 use crate::types::Record;
 use amounts::Amount;
 use amounts::Price;
+use keys::Key;
 use kinds::Kind;
 use kinds::Rules;
 use kinds::Stage;
-use refusals::pick;
 
 fn requirement_fits(rules: Rules, stage: u64, cents: i64) -> bool
     ensures { λ r. ⌜ r ≡ requirementFits rules stage cents ⌝ }
@@ -19,49 +16,6 @@ fn requirement_fits(rules: Rules, stage: u64, cents: i64) -> bool
     (!(stage <= Stage::POSTED) | rules.pending_fits(cents))
         & (!(stage == Stage::FINISHED) | Amount { cents }.is_finished())
         & (!(stage == Stage::BILLED) | Amount { cents }.is_bill())
-}
-
-impl Key {
-    pub fn same(self, other: Key) -> bool
-        ensures { λ r. ⌜ r ≡ sameKey self other ⌝ }
-    {
-        (self.kind == other.kind) & (self.path == other.path) & (self.hour == other.hour)
-    }
-
-    fn kind_fits(self) -> bool
-        ensures { λ r. ⌜ r ≡ isKind (self .kind) ⌝ }
-    {
-        Kind { number: self.kind }.in_range()
-    }
-
-    fn path_fits(self) -> bool
-        ensures { λ r. ⌜ r ≡ isPath (rulesOf (self .kind)) (self .path) ⌝ }
-    {
-        Kind { number: self.kind }.rules().is_path(self.path)
-    }
-
-    fn hour_fits(self) -> bool
-        ensures { λ r. ⌜ r ≡ isHour (self .hour) ⌝ }
-    {
-        self.hour <= Key::MAX_HOUR
-    }
-
-    pub fn in_range(self) -> bool
-        ensures { λ r. ⌜ r ≡ keyFits self ⌝ }
-    {
-        self.kind_fits() & self.path_fits() & self.hour_fits()
-    }
-
-    // Refusals 2 to 4.
-    pub fn refusal(self) -> u64
-        ensures { λ r. ⌜ r ≡ first (keyRows self) ⌝ }
-    {
-        pick(
-            !self.kind_fits(),
-            2,
-            pick(!self.path_fits(), 3, pick(!self.hour_fits(), 4, 0)),
-        )
-    }
 }
 
 impl Record {

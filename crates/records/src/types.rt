@@ -1,15 +1,5 @@
-// A transaction's key, and its record.
-
-// A transaction is known by its key; all bids of one key are one group.
-pub struct Key {
-    pub kind: u64,
-    pub path: u64,
-    pub hour: u64,
-}
-
-impl Key {
-    pub const MAX_HOUR: u64 = 999_999;
-}
+// A transaction's record.
+use keys::Key;
 
 // One place of the book. A free place is zero throughout.
 pub struct Record {

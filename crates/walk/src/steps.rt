@@ -7,7 +7,7 @@ ghost use Rattle.credit.specs.NoOverflow.{SumsWithin};
 ghost use Rattle.walk.specs.Walk.{nothing, more};
 use crate::types::Walk;
 use credit::types::Sums;
-use records::types::Key;
+use keys::Key;
 use records::types::Record;
 use refusals::pick;
 

@@ -10,7 +10,7 @@ use lib.Seq.{set-out}
 use Rattle.amounts.specs.Limits.{isSupport}
 use Rattle.distinct.specs.Numbers.{allDistinct}
 use Rattle.refusals.proofs.Laws.{and-left}
-use Rattle.records.specs.declared.types.Key.{Key}
+use Rattle.keys.specs.declared.Key.{Key}
 use Rattle.records.specs.declared.types.Record.{Record}
 use Rattle.records.specs.Records.{blank, at}
 use Rattle.messages.specs.declared.types.Message.{Message}

@@ -1,6 +1,6 @@
 -- `records::Record::is_sound` is the definition's test that the place can pass.
 use mathlib.Core.Path.{_∙_, sym}
-use Rattle.records.proofs.Keys.{free-place, used-place}
+use Rattle.records.proofs.Places.{free-place, used-place}
 use Rattle.records.proofs.types.Record.is_sound.Statement.{statement}
 use Rattle.records.proofs.types.Record.is_sound.Tie as tie
 

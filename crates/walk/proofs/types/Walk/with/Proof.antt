@@ -4,10 +4,10 @@ use mathlib.Core.Path.{_≡_, sym, ap, _∙_}
 use mathlib.Core.Bool.{Bool, true, false, _&&_, cond}
 use Prim.Native.Nat.{ℕ}
 use Rattle.refusals.proofs.Laws.{and-right}
-use Rattle.records.specs.declared.types.Key.{Key}
+use Rattle.keys.specs.declared.Key.{Key}
 use Rattle.records.specs.declared.types.Record.{Record}
 use Rattle.records.specs.Records.{blank, isFree, at as atKey, okPlace}
-use Rattle.records.proofs.Keys.{place-free, free-at}
+use Rattle.records.proofs.Places.{place-free, free-at}
 use Rattle.credit.specs.Sums.{withRecord}
 use Rattle.credit.proofs.Parts.{with-blank}
 use Rattle.walk.specs.Walk.{Walk, lost, more}

@@ -1,6 +1,6 @@
--- `records::Key::in_range` is the three tests of the definition.
-use Rattle.records.proofs.types.Key.in_range.Statement.{statement}
-use Rattle.records.proofs.types.Key.in_range.Tie as tie
+-- `keys::Key::in_range` is the three tests of the definition.
+use Rattle.keys.proofs.Key.in_range.Statement.{statement}
+use Rattle.keys.proofs.Key.in_range.Tie as tie
 
 kind-fits-requires : tie.Need-kind-fits-requires
 kind-fits-requires c κs = tt

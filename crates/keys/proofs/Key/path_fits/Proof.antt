@@ -1,6 +1,6 @@
--- `records::Key::path_fits` asks the kind's rules.
-use Rattle.records.proofs.types.Key.path_fits.Statement.{statement}
-use Rattle.records.proofs.types.Key.path_fits.Tie as tie
+-- `keys::Key::path_fits` asks the kind's rules.
+use Rattle.keys.proofs.Key.path_fits.Statement.{statement}
+use Rattle.keys.proofs.Key.path_fits.Tie as tie
 
 rules-requires : tie.Need-rules-requires
 rules-requires c κs = tt

@@ -1,8 +1,8 @@
--- `records::Key::refusal` picks row by row, as `first` does.
+-- `keys::Key::refusal` picks row by row, as `first` does.
 use Rattle.refusals.specs.Refusals.{first}
-use Rattle.records.specs.Records.{keyRows}
-use Rattle.records.proofs.types.Key.refusal.Statement.{statement}
-use Rattle.records.proofs.types.Key.refusal.Tie as tie
+use Rattle.keys.specs.Keys.{keyRows}
+use Rattle.keys.proofs.Key.refusal.Statement.{statement}
+use Rattle.keys.proofs.Key.refusal.Tie as tie
 
 kind-fits-requires : tie.Need-kind-fits-requires
 kind-fits-requires c κs = tt
