@@ -14,7 +14,7 @@ use Rattle.messages.specs.declared.types.Message.{Message}
 use Rattle.messages.specs.declared.types.Deed.{Deed}
 use Rattle.messages.specs.declared.types.Message.the-variants.{Open, Revise, Withdraw, Post, Finish, Bill, Pay, Support}
 use Rattle.bids.specs.Rows.{pointRows, bidRows}
-use Rattle.formulas.specs.Rows.{deliveryRows, billRows}
+use Rattle.deliveries.specs.Rows.{deliveryRows, billRows}
 use Rattle.keys.specs.Keys.{keyRows}
 use Rattle.messages.specs.Plan.{keyOf, stageRows, planRows, plan}
 use Rattle.messages.proofs.Fits.{plan-rows-numbered}

@@ -12,7 +12,7 @@ use Rattle.amounts.proofs.Signed.{tested}
 use Rattle.refusals.specs.Refusals.{Row, first}
 use Rattle.refusals.proofs.Laws.{and-left, and-right, and-both, never}
 use Rattle.bids.specs.Rows.{pointRows, bidRows}
-use Rattle.formulas.specs.Rows.{deliveryRows, billRows}
+use Rattle.deliveries.specs.Rows.{deliveryRows, billRows}
 use Rattle.keys.specs.Keys.{keyRows}
 use Rattle.records.specs.declared.types.Record.{Record}
 use Rattle.messages.specs.declared.types.Message.{Message}

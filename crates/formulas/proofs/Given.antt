@@ -16,7 +16,7 @@ use Rattle.refusals.specs.Refusals.{None}
 use Rattle.refusals.proofs.Laws.{and-left, and-right}
 use Rattle.kinds.specs.Kinds.{rulesOf, differentialFits, pendingFits, pricesFit}
 use Rattle.kinds.proofs.Fits.{differential-small, Prices, prices}
-use Rattle.formulas.specs.Rows.{deliveryRows, postedRows, finishedRows}
+use Rattle.deliveries.specs.Rows.{deliveryRows, postedRows, finishedRows}
 
 -- ---- a parameter that passed its test, as the code reads it
 

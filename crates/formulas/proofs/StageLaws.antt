@@ -22,7 +22,7 @@ use Rattle.kinds.proofs.ByKind.{by-kind, rules-1, rules-2, rules-3, rules-4}
 use Rattle.kinds.proofs.Fits.{range-test, pending-range, pending-bid, pending-wheel, exempt-range}
 use Rattle.bids.specs.Rows.{isPointMwh}
 use Rattle.formulas.specs.Stages.{importPosted, balancing, importFinished, exportPosted, exportFinished, hourAheadFinished, wheelPosted, wheelFinished, postedRequirement, finishedRequirement}
-use Rattle.formulas.specs.Rows.{postedRows, finishedRows, billRows}
+use Rattle.deliveries.specs.Rows.{postedRows, finishedRows, billRows}
 use Rattle.formulas.specs.Entries.{postedVerdict, finishedVerdict, billedVerdict}
 use Rattle.formulas.proofs.Given.{posting, finish}
 

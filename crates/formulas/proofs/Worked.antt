@@ -8,7 +8,7 @@ use Rattle.bids.specs.Points.{largestMwh, totalMwh, mwhAt, tried, exposure, whe
 use Rattle.bids.specs.Bids.{importBid, exportBid, hourAheadBid, bidMwh, bidRequirement}
 use Rattle.bids.specs.Rows.{pointRows, bidRows}
 use Rattle.bids.specs.Entries.{bidVerdict}
-use Rattle.formulas.specs.Rows.{deliveryRows, postedRows, finishedRows}
+use Rattle.deliveries.specs.Rows.{deliveryRows, postedRows, finishedRows}
 use Rattle.formulas.specs.Stages.{importPosted, balancing, importFinished, exportPosted, exportFinished, hourAheadFinished, wheelPosted, wheelFinished, postedRequirement, finishedRequirement}
 use Rattle.formulas.specs.Entries.{postedVerdict, finishedVerdict}
 use Rattle.formulas.specs.Worked.{examples, answers, given}

@@ -6,7 +6,7 @@ use Prim.Native.Nat.{ℕ}
 use lib.IntN.{ℤ}
 use Rattle.refusals.specs.Refusals.{Verdict, judge}
 use Rattle.kinds.specs.Kinds.{kindRow}
-use Rattle.formulas.specs.Rows.{postedRows, finishedRows, billRows}
+use Rattle.deliveries.specs.Rows.{postedRows, finishedRows, billRows}
 use Rattle.formulas.specs.Stages.{postedRequirement, finishedRequirement}
 
 -- stage 2

@@ -1,4 +1,3 @@
-pub mod Rows
 pub mod Stages
 pub mod Entries
 pub mod Worked

@@ -7,11 +7,11 @@ ghost use Rattle.amounts.specs.Limits.{isQuantity, isPrice, isDifferential, isP
 ghost use Rattle.refusals.specs.Refusals.{None};
 ghost use Rattle.refusals.specs.Figures.{figure};
 ghost use Rattle.formulas.specs.Stages.{importPosted, balancing, importFinished, exportPosted, exportFinished, hourAheadFinished, wheelPosted, wheelFinished, postedRequirement, finishedRequirement};
-ghost use Rattle.formulas.specs.Rows.{postedRows, finishedRows};
+ghost use Rattle.deliveries.specs.Rows.{postedRows, finishedRows};
 ghost use Rattle.formulas.specs.Entries.{postedVerdict, finishedVerdict, billedVerdict};
-use crate::rows::bill_refusal;
-use crate::rows::finished_refusal;
-use crate::rows::posted_refusal;
+use deliveries::bill_refusal;
+use deliveries::finished_refusal;
+use deliveries::posted_refusal;
 use kinds::Kind;
 use kinds::unless_exempt;
 use refusals::Figure;

@@ -141,7 +141,7 @@ fn delivery(kind: u64, mwh: u64, price: i64, second: i64) {
     whole(b" MWh ", mwh);
     cents(b" prices ", price);
     cents(b" and ", second);
-    answered(formulas::delivery_refusal(kind, mwh, price, second), 0);
+    answered(deliveries::delivery_refusal(kind, mwh, price, second), 0);
 }
 
 fn billed(amount: i64) {

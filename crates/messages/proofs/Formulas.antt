@@ -10,7 +10,7 @@ use Rattle.bids.specs.Points.{curve}
 use Rattle.bids.specs.Bids.{bidMwh, bidRequirement}
 use Rattle.formulas.specs.Stages.{postedRequirement, finishedRequirement}
 use Rattle.bids.specs.Rows.{bidRows}
-use Rattle.formulas.specs.Rows.{postedRows, finishedRows}
+use Rattle.deliveries.specs.Rows.{postedRows, finishedRows}
 use Rattle.refusals.specs.declared.Bid.{Bid}
 use Rattle.refusals.specs.Figures.{centsOf, figure}
 use Rattle.kinds.specs.Kinds.{kindRow}

@@ -14,7 +14,7 @@ use Rattle.refusals.specs.Refusals.{row, None}
 use Rattle.refusals.proofs.Laws.{never, and-left, and-both, none-split}
 use Rattle.kinds.specs.Kinds.{isKind, kindRow, isPath, bidMwhFits, pricesFit, hasStage, rulesOf, bidStage, postedStage, never as unposted}
 use Rattle.bids.specs.Rows.{bidRows}
-use Rattle.formulas.specs.Rows.{deliveryRows, postedRows, finishedRows, billRows}
+use Rattle.deliveries.specs.Rows.{deliveryRows, postedRows, finishedRows, billRows}
 use Rattle.keys.specs.declared.Key.{Key}
 use Rattle.keys.specs.Keys.{isHour, keyFits, keyRows}
 use Rattle.records.specs.declared.types.Record.{Record}

@@ -10,13 +10,13 @@ use borrow.Author.Tests.{eqb-true}
 use Rattle.refusals.specs.Refusals.{Row, row, first, refuse, accept, answered, judge, orElse}
 use Rattle.refusals.proofs.Laws.{numbered, first-append, numbered-append}
 use Rattle.bids.specs.Rows.{bidRows}
-use Rattle.formulas.specs.Rows.{deliveryRows, billRows}
+use Rattle.deliveries.specs.Rows.{deliveryRows, billRows}
 use Rattle.refusals.specs.declared.Bid.{Bid}
 use Rattle.kinds.specs.Kinds.{isKind, kindRow, rulesOf, bidStage, billedStage}
 use Rattle.refusals.specs.Answers.{bidRefusalOf, bidAnswer}
 use Rattle.bids.specs.Entries.{bidVerdict}
 use Rattle.bids.proofs.Curves.{bid-rows-numbered}
-use Rattle.formulas.proofs.Numbered.{delivery-rows-numbered, bill-rows-numbered}
+use Rattle.deliveries.proofs.Numbered.{delivery-rows-numbered, bill-rows-numbered}
 use Rattle.keys.specs.declared.Key.{Key}
 use Rattle.keys.specs.Keys.{keyRows}
 use Rattle.records.specs.declared.types.Record.{Record}

@@ -10,7 +10,7 @@ use Rattle.amounts.specs.Limits.{isSupport}
 use Rattle.refusals.specs.Refusals.{Row, row, Verdict, refuse, accept, judge}
 use Rattle.kinds.specs.Kinds.{rulesOf, bidStage, postedStage, finishedStage, billedStage}
 use Rattle.bids.specs.Rows.{bidRows}
-use Rattle.formulas.specs.Rows.{deliveryRows, billRows}
+use Rattle.deliveries.specs.Rows.{deliveryRows, billRows}
 use Rattle.refusals.specs.declared.Bid.{Bid}
 use Rattle.refusals.specs.Figures.{figure, centsOf}
 use Rattle.refusals.specs.Answers.{bidAnswer, bidOf}

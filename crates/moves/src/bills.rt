@@ -23,7 +23,7 @@ fn bill_refusal(billing: Billing, old: Record) -> u64
     let rules = Kind {
         number: billing.key.kind,
     }.rules();
-    let amount = formulas::bill_refusal(billing.cents);
+    let amount = deliveries::bill_refusal(billing.cents);
     or_else(
         billing.key.refusal(),
         or_else(amount, stage_refusal(old, old.stage == rules.billed)),

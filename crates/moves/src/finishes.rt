@@ -29,7 +29,7 @@ fn finish_refusal(finishing: Finishing, old: Record) -> u64
     let rules = Kind {
         number: finishing.key.kind,
     }.rules();
-    let delivery = formulas::delivery_refusal(
+    let delivery = deliveries::delivery_refusal(
         finishing.key.kind,
         finishing.actual,
         finishing.price,

@@ -43,7 +43,7 @@ fn post_refusal(posting: Posting, old: Record) -> u64
     let rules = Kind {
         number: posting.key.kind,
     }.rules();
-    let delivery = formulas::delivery_refusal(
+    let delivery = deliveries::delivery_refusal(
         posting.key.kind,
         posting.schedule,
         posting.price,

@@ -4,8 +4,8 @@ use mir.Facts.{toZ-ofZ}
 use Rattle.refusals.specs.Refusals.{first}
 use Rattle.refusals.specs.declared.Figure.the-variants.{Cents, Refused}
 use Rattle.refusals.proofs.Laws.{none-applies}
-use Rattle.formulas.specs.Rows.{billRows}
-use Rattle.formulas.proofs.Numbered.{bill-rows-numbered}
+use Rattle.deliveries.specs.Rows.{billRows}
+use Rattle.deliveries.proofs.Numbered.{bill-rows-numbered}
 use Rattle.formulas.proofs.StageLaws.{billed-accepted, billed-refused}
 use Rattle.formulas.proofs.stages.billed.Statement.{statement}
 use Rattle.formulas.proofs.stages.billed.Tie as tie

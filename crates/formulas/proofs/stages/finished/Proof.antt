@@ -7,8 +7,8 @@ use Rattle.refusals.specs.Refusals.{first, None}
 use Rattle.refusals.specs.declared.Figure.the-variants.{Refused}
 use Rattle.refusals.proofs.Laws.{none-applies}
 use Rattle.kinds.specs.Kinds.{kindRow}
-use Rattle.formulas.specs.Rows.{finishedRows}
-use Rattle.formulas.proofs.Numbered.{finished-rows-numbered}
+use Rattle.deliveries.specs.Rows.{finishedRows}
+use Rattle.deliveries.proofs.Numbered.{finished-rows-numbered}
 use Rattle.formulas.proofs.StageLaws.{finished-accepted, finished-refused}
 use Rattle.formulas.proofs.stages.finished.Statement.{statement}
 use Rattle.formulas.proofs.stages.finished.Tie as tie

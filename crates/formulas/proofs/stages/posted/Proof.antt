@@ -7,8 +7,8 @@ use Rattle.refusals.specs.Refusals.{first, None}
 use Rattle.refusals.specs.declared.Figure.the-variants.{Refused}
 use Rattle.refusals.proofs.Laws.{none-applies}
 use Rattle.kinds.specs.Kinds.{kindRow}
-use Rattle.formulas.specs.Rows.{postedRows}
-use Rattle.formulas.proofs.Numbered.{posted-rows-numbered}
+use Rattle.deliveries.specs.Rows.{postedRows}
+use Rattle.deliveries.proofs.Numbered.{posted-rows-numbered}
 use Rattle.formulas.proofs.StageLaws.{posted-accepted, posted-refused}
 use Rattle.formulas.proofs.stages.posted.Statement.{statement}
 use Rattle.formulas.proofs.stages.posted.Tie as tie

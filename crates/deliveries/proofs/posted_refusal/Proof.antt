@@ -6,10 +6,10 @@ use mir.Facts.{toZ-ofZ}
 use Rattle.refusals.specs.Refusals.{row, first}
 use Rattle.refusals.proofs.Laws.{first-append}
 use Rattle.kinds.specs.Kinds.{never, rulesOf, differentialFits}
-use Rattle.formulas.specs.Rows.{deliveryRows, postedRows}
-use Rattle.formulas.proofs.Numbered.{delivery-rows-numbered}
-use Rattle.formulas.proofs.rows.posted_refusal.Statement.{statement}
-use Rattle.formulas.proofs.rows.posted_refusal.Tie as tie
+use Rattle.deliveries.specs.Rows.{deliveryRows, postedRows}
+use Rattle.deliveries.proofs.Numbered.{delivery-rows-numbered}
+use Rattle.deliveries.proofs.posted_refusal.Statement.{statement}
+use Rattle.deliveries.proofs.posted_refusal.Tie as tie
 
 delivery-refusal-requires : tie.Need-delivery-refusal-requires
 delivery-refusal-requires c κs = tt

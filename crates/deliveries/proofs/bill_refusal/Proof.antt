@@ -1,9 +1,9 @@
 -- `bill_refusal`: the pick is the row.
 use mir.Facts.{toZ-ofZ}
 use Rattle.refusals.specs.Refusals.{first}
-use Rattle.formulas.specs.Rows.{billRows}
-use Rattle.formulas.proofs.rows.bill_refusal.Statement.{statement}
-use Rattle.formulas.proofs.rows.bill_refusal.Tie as tie
+use Rattle.deliveries.specs.Rows.{billRows}
+use Rattle.deliveries.proofs.bill_refusal.Statement.{statement}
+use Rattle.deliveries.proofs.bill_refusal.Tie as tie
 
 is-bill-requires : tie.Need-is-bill-requires
 is-bill-requires c κs = tt

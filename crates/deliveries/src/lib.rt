@@ -3,7 +3,7 @@ ghost use mathlib.Core.Path.{_≡_};
 ghost use mathlib.Core.List.{_∷_};
 ghost use Rattle.refusals.specs.Refusals.{first};
 ghost use Rattle.kinds.specs.Kinds.{kindRow};
-ghost use Rattle.formulas.specs.Rows.{deliveryRows, postedRows, finishedRows, billRows};
+ghost use Rattle.deliveries.specs.Rows.{deliveryRows, postedRows, finishedRows, billRows};
 use kinds::Kind;
 use kinds::Rules;
 use refusals::or_else;
@@ -19,13 +19,7 @@ pub fn delivery_refusal(kind: u64, mwh: u64, price: i64, second: i64) -> u64
 }
 
 // Refusals 2, 6 to 8 and 12 of the posted amount.
-pub(crate) fn posted_refusal(
-    kind: u64,
-    differential: u64,
-    schedule: u64,
-    price: i64,
-    second: i64,
-) -> u64
+pub fn posted_refusal(kind: u64, differential: u64, schedule: u64, price: i64, second: i64) -> u64
     ensures { λ r. ⌜ r ≡ first (kindRow kind ∷ postedRows kind differential schedule price second) ⌝ }
 {
     let delivery = delivery_refusal(kind, schedule, price, second);
@@ -40,7 +34,7 @@ pub(crate) fn posted_refusal(
 }
 
 // Refusals 2, 6, 7 and 9 of the finished amount.
-pub(crate) fn finished_refusal(
+pub fn finished_refusal(
     kind: u64,
     schedule: u64,
     day_ahead: i64,

@@ -7,7 +7,7 @@ use Prim.Native.Nat.{ℕ}
 use lib.IntN.{ℤ}
 use Rattle.refusals.proofs.Laws.{numbered}
 use Rattle.kinds.specs.Kinds.{kindRow}
-use Rattle.formulas.specs.Rows.{deliveryRows, postedRows, finishedRows, billRows}
+use Rattle.deliveries.specs.Rows.{deliveryRows, postedRows, finishedRows, billRows}
 
 pub delivery-rows-numbered : (kind mwh : ℕ) (price second : ℤ) → numbered (deliveryRows kind mwh price second) ≡ true
 unfolding numbered deliveryRows
