@@ -153,7 +153,7 @@ module _ (codes : List ℕ) (n : ℕ) (held : 0 < getD codes n 0) where
 
 -- ---- the chains of the first n places
 pub record Chained (codes latest links : List ℕ) (n : ℕ) : Type 0 where
-  pub buckets : length latest ≡ 251
+  pub buckets : length latest ≡ 256
   pub places : length links ≡ 256
   pub ends : (bucket : ℕ) → Latest codes bucket n (getD latest bucket 0)
   pub linked : Linked codes links n
@@ -165,12 +165,12 @@ zeros (suc n) zero = refl
 zeros (suc n) (suc k) = zeros n k
 
 module _ (codes : List ℕ) where
-  pub chains-start : Chained codes (replicate 251 0) (replicate 256 0) 0
+  pub chains-start : Chained codes (replicate 256 0) (replicate 256 0) 0
   chains-start =
       record {
         buckets = refl;
         places = refl;
-        ends = λ b. none codes b _ (zeros 251 b);
+        ends = λ b. none codes b _ (zeros 256 b);
         linked = below-none _;
         unmet = below-none _;
       }

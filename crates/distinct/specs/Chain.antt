@@ -2,11 +2,15 @@
 -- Assumes nothing.
 use mathlib.Core.Path.{_≡_}
 use mathlib.Core.List.{List}
-use Prim.Native.Nat.{ℕ, _%_, _-_, _≤_, _<_}
+use Prim.Native.Nat.{ℕ, _*_, _/_, _%_, _-_, _≤_, _<_}
 use lib.ListN.{getD}
 
+-- The bucket is below 256, and equal numbers have the same: nothing else is asked of it.
+abbrev pub middleOf : ℕ → ℕ
+middleOf code = code % 4294967296 * 2654435761 / 65536 % 4294967296
+
 abbrev pub bucketOf : ℕ → ℕ
-bucketOf code = code % 251
+bucketOf code = middleOf code * middleOf code / 268435456 % 256
 
 -- Counted from 1, at is the last of the first n places that holds a number of the bucket; 0 for none.
 pub record Latest (codes : List ℕ) (bucket n at : ℕ) : Type 0 where

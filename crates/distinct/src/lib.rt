@@ -11,13 +11,20 @@ ghost use Rattle.distinct.specs.Chain.{bucketOf, Latest, Linked, Unmet};
 
 pub const PLACES: usize = 256;
 
-// A prime, so that numbers which differ by multiples of a power of ten spread over the buckets.
-const BUCKETS: usize = 251;
+const BUCKETS: usize = 256;
 
+// 2^32, and a prime near that over the golden ratio.
+const HALF: u64 = 4_294_967_296;
+
+const SPREAD: u64 = 2_654_435_761;
+
+// Eight bits from the middle of a square. A remainder or a product takes equal steps to equal steps, so that with some step
+// all numbers fall in few buckets; a square does not. The product before it spreads small numbers, and such as end alike.
 fn bucket(code: u64) -> usize
     ensures { λ r. ⌜ r ≡ bucketOf code ⌝ }
 {
-    code as usize % BUCKETS
+    let middle = code % HALF * SPREAD / 65_536 % HALF;
+    (middle * middle / 268_435_456) as usize % BUCKETS
 }
 
 // Whether the number at `place` stands before it too. A chain counts places from 1, and ends at 0: `latest` is the last place
