@@ -21,7 +21,8 @@ use Rattle.records.proofs.Places.{free-blank, at-blank, place-free, place-used}
 use Rattle.records.proofs.Clauses.{clauses}
 use Rattle.distinct.specs.Numbers.{standsIn, allDistinct}
 use Rattle.book.specs.Places.{find, missing}
-use Rattle.book.specs.Books.{Book, distinct, sound}
+use Rattle.credit.specs.Account.{keepsTotals}
+use Rattle.book.specs.Books.{Book, distinct, sound, soundBy01, held, owed}
 use Rattle.walk.specs.Codes.{codeOf}
 
 pub code-blank : codeOf blank ≡ 0
@@ -113,7 +114,7 @@ distinct-numbers (r ∷ rs) h =
     used : Ranges r → every okPlace rs ≡ true → (isFree r || missing (find (at (r .key)) rs)) ≡ (eqb (codeOf r) 0 || not (standsIn (codeOf r) (map codeOf rs)))
     used k ok = rw (k .used, ne-eqb (codeOf r) 0 (code-used r k)) (missing-code r rs k ok)
 
--- ---- the three parts of soundness, the middle one tested first
+-- ---- the parts of soundness, the places tested first
 and-none : (a b c : Bool) → b ≡ false → (a && b && c) ≡ false
 and-none true b c e = rw e
 and-none false b c e = refl
@@ -122,11 +123,11 @@ and-middle : (a b c : Bool) → b ≡ true → (a && b && c) ≡ (a && c)
 and-middle true b c e = rw e
 and-middle false b c e = refl
 
--- a book is sound by the test of its places, that of its support, and that of its keys' numbers, which are looked at whatever the places hold
-pub sound-by : (b : Book) (ranged : Bool) (codes : List ℕ) → ranged ≡ every okPlace (b .records) → codes ≡ map codeOf (b .records)
-    → (ranged && isSupport (b .account .support) && allDistinct codes) ≡ sound b
-unfolding sound
-sound-by b true codes e f =
-    ap (λ (x : Bool). isSupport (b .account .support) && x) (ap allDistinct f ∙ sym (distinct-numbers (b .records) (sym e)))
-    ∙ sym (and-middle (isSupport (b .account .support)) (every okPlace (b .records)) (distinct (b .records)) (sym e))
-sound-by b false codes e f = sym (and-none (isSupport (b .account .support)) (every okPlace (b .records)) (distinct (b .records)) (sym e))
+-- a book is sound by the test of its places, that of its support, that of its keys' numbers, which are looked at whatever the places hold, and that of its totals
+pub sound-by : (b : Book) (ranged kept : Bool) (codes : List ℕ) → ranged ≡ every okPlace (b .records) → codes ≡ map codeOf (b .records) → (ranged ≡ true → kept ≡ keepsTotals (b .account) (held b) (owed b))
+    → (ranged && isSupport (b .account .support) && allDistinct codes && kept) ≡ sound b
+unfolding sound soundBy01
+sound-by b true kept codes e f g =
+    (λ i. (ap (λ (x : Bool). isSupport (b .account .support) && x) (ap allDistinct f ∙ sym (distinct-numbers (b .records) (sym e)))
+    ∙ sym (and-middle (isSupport (b .account .support)) (every okPlace (b .records)) (distinct (b .records)) (sym e))) i && g refl i)
+sound-by b false kept codes e f g = sym (ap (λ (x : Bool). x && keepsTotals (b .account) (held b) (owed b)) (and-none (isSupport (b .account .support)) (every okPlace (b .records)) (distinct (b .records)) (sym e)))

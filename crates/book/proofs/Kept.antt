@@ -21,31 +21,50 @@ use Rattle.messages.specs.Plan.{keyOf}
 use Rattle.records.proofs.Places.{at-key, at-used, free-blank, place-used}
 use Rattle.messages.proofs.Fits.{Under, Fits}
 use Rattle.credit.specs.declared.types.Account.{Account}
-use Rattle.credit.specs.Account.{supported}
+use Rattle.credit.specs.Account.{supported, keepsTotals}
 use Rattle.credit.specs.Credit.{creditRows}
+use Rattle.credit.proofs.Keeping.{keeps-held, keeps-owed, keeps-own}
 use Rattle.book.specs.Places.{find, swap, missing, orElseBlank}
-use Rattle.book.specs.Books.{Book, lookup, sound, distinct, full, totals}
+use Rattle.book.specs.Books.{Book, lookup, sound, soundBy01, distinct, held, owed, heldOver, owedOver, accountOver, full, totals}
 use Rattle.book.specs.Step.{change, rebook, done}
 use Rattle.book.proofs.Places.{find-passes, every-find}
 use Rattle.book.proofs.Effect.{Effect, effect-add, effect-put, effect-drop}
 
 -- ---- the parts of soundness
 module _ (b : Book) (h : sound b ≡ true) where
-  pub sound-support : isSupport (b .account .support) ≡ true
+  pub sound-by-01 : soundBy01 (b .account .support) (b .records) ≡ true
   unfolding sound
-  sound-support = and-left (isSupport (b .account .support)) (every okPlace (b .records)) (and-left (isSupport (b .account .support) && every okPlace (b .records)) (distinct (b .records)) h)
+  sound-by-01 = and-left (soundBy01 (b .account .support) (b .records)) (keepsTotals (b .account) (held b) (owed b)) h
+
+  sound-keeps : keepsTotals (b .account) (held b) (owed b) ≡ true
+  unfolding sound
+  sound-keeps = and-right (soundBy01 (b .account .support) (b .records)) (keepsTotals (b .account) (held b) (owed b)) h
+
+  pub sound-support : isSupport (b .account .support) ≡ true
+  unfolding soundBy01
+  sound-support = and-left (isSupport (b .account .support)) (every okPlace (b .records)) (and-left (isSupport (b .account .support) && every okPlace (b .records)) (distinct (b .records)) sound-by-01)
 
   pub sound-places : every okPlace (b .records) ≡ true
-  unfolding sound
-  sound-places = and-right (isSupport (b .account .support)) (every okPlace (b .records)) (and-left (isSupport (b .account .support) && every okPlace (b .records)) (distinct (b .records)) h)
+  unfolding soundBy01
+  sound-places = and-right (isSupport (b .account .support)) (every okPlace (b .records)) (and-left (isSupport (b .account .support) && every okPlace (b .records)) (distinct (b .records)) sound-by-01)
 
   pub sound-distinct : distinct (b .records) ≡ true
-  unfolding sound
-  sound-distinct = and-right (isSupport (b .account .support) && every okPlace (b .records)) (distinct (b .records)) h
+  unfolding soundBy01
+  sound-distinct = and-right (isSupport (b .account .support) && every okPlace (b .records)) (distinct (b .records)) sound-by-01
+
+  -- the kept totals are the walk's
+  pub kept-held : b .account .held ≡ held b
+  kept-held = keeps-held (b .account) (held b) (owed b) sound-keeps
+
+  pub kept-owed : b .account .owed ≡ owed b
+  kept-owed = keeps-owed (b .account) (held b) (owed b) sound-keeps
 
 pub sound-make : (b : Book) (a : Account) (rs : List Record) → isSupport (a .support) ≡ true → every okPlace rs ≡ true → distinct rs ≡ true → sound (rebook b a rs) ≡ true
-unfolding sound
-sound-make b a rs s p d = and-both (isSupport (a .support) && every okPlace rs) (distinct rs) (and-both (isSupport (a .support)) (every okPlace rs) s p) d
+unfolding sound soundBy01 held owed
+sound-make b a rs s p d =
+    and-both (isSupport (a .support) && every okPlace rs && distinct rs) (keepsTotals (accountOver a rs) (heldOver rs) (owedOver rs))
+    (and-both (isSupport (a .support) && every okPlace rs) (distinct rs) (and-both (isSupport (a .support)) (every okPlace rs) s p) d)
+    (keeps-own (accountOver a rs))
 
 -- ---- what stands under a key
 under-by : (k : Key) (rs : List Record) → every okPlace rs ≡ true → (o : Option Record) → find (at k) rs ≡ o → Under k (orElseBlank blank o)

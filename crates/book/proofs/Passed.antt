@@ -24,10 +24,6 @@ index p (x ∷ xs) = cond (p x) 0 (index p xs + 1)
 
 -- ---- a walk from the end
 module _ {A : Type 0} (p : A → Bool) (l : List A) (i : ℕ) (d : A) (h : 0 < i) (g : i ≤ length l) where
-  pub every-back : every p (drop (i - 1) l) ≡ (p (getD l (i - 1) d) && every p (drop i l))
-  unfolding every
-  every-back = rw (drop-back l i d h g)
-
   index-by : (b : Bool) (n : ℕ) → n ≡ i + index p (drop i l) → cond b (i - 1) n ≡ (i - 1) + cond b 0 (index p (drop i l) + 1)
   index-by true n e = omega arith
   index-by false n e = omega arith

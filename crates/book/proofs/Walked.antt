@@ -17,14 +17,14 @@ use Rattle.records.specs.declared.types.Record.{Record}
 use Rattle.records.specs.Records.{blank, isFree, at, okPlace}
 use Rattle.credit.specs.declared.types.Sums.{Sums}
 use Rattle.credit.specs.Credit.{owes}
-use Rattle.credit.specs.Sums.{unbilledOf, noSums, withRecord}
+use Rattle.credit.specs.Sums.{unbilledOf, noSums, sumsOf, withRecord}
 use Rattle.credit.specs.NoOverflow.{SumsWithin}
 use Rattle.book.specs.Books.{Book, lookup}
 use Rattle.walk.specs.Codes.{codeOf}
 use Rattle.walk.specs.declared.types.Walk.{Walk}
 use Rattle.walk.specs.Walk.{nothing, lost, more}
-use Rattle.book.proofs.Passed.{index, every-back, index-back, find-get, set-back, mapped}
-use Rattle.book.proofs.Sums.{sumsOf, sums-within, total-back}
+use Rattle.walk.proofs.Sums.{sums-within, total-back, every-back}
+use Rattle.book.proofs.Passed.{index, index-back, find-get, set-back, mapped}
 use Rattle.book.proofs.Codes.{code-blank}
 
 -- of places in range: the sums, the lowest free place and the key's

@@ -31,23 +31,24 @@ use Rattle.messages.specs.Plan.{keyOf, plan, planned}
 use Rattle.messages.proofs.Fits.{Fits, fits}
 use Rattle.credit.specs.declared.types.Account.{Account}
 use Rattle.credit.specs.declared.types.Sums.{Sums}
-use Rattle.credit.specs.Account.{supported}
+use Rattle.credit.specs.Account.{totalled}
 use Rattle.credit.specs.Credit.{owes, creditRows, answeredBy}
-use Rattle.credit.specs.Sums.{unbilledOf, withRecord, withoutRecord, heldOf}
+use Rattle.credit.specs.Sums.{unbilledOf, sumsOf, withRecord, withoutRecord, heldOf}
 use Rattle.credit.specs.NoOverflow.{SumsWithin, TotalsBounded}
 use Rattle.credit.proofs.Parts.{owes-blank, unbilled-blank, totals-bounded}
 use Rattle.credit.proofs.Rows.{credit-rows-numbered}
 use Rattle.book.specs.Places.{swap}
-use Rattle.book.specs.Books.{Book, lookup, sound, held, owed, full, totals, heldAnswered, owedAnswered}
+use Rattle.book.specs.Books.{Book, lookup, sound, held, owed, heldOver, full, totals, heldAnswered, owedAnswered}
 use Rattle.refusals.specs.declared.Answer.the-variants.{Accepted, Refused}
 use Rattle.book.specs.Step.{Outcome, change, rebook, done, outcome, step}
 use Rattle.endings.specs.declared.types.View.{View}
 use Rattle.endings.specs.declared.types.Ending.{Ending}
 use Rattle.endings.specs.Endings.{DeedSound, PlanSound, Summable, totalsOf, asVerdict, creditVerdict, pass, unsound, turnedAway, putIn, carriedOut, endingOf, ended}
 use Rattle.book.proofs.Passed.{index, swap-set, missing-index}
-use Rattle.book.proofs.Sums.{sumsOf, held-by, sums-within}
+use Rattle.walk.proofs.Sums.{sums-within}
+use Rattle.book.proofs.Sums.{held-by}
 use Rattle.book.proofs.Effect.{weight}
-use Rattle.book.proofs.Kept.{sound-places, lookup-under, lookup-none, lookup-some, effect}
+use Rattle.book.proofs.Kept.{sound-places, kept-held, kept-owed, lookup-under, lookup-none, lookup-some, effect}
 use Rattle.book.proofs.Verdicts.{concluded, verdict-is}
 
 -- a sound book's sums are those of 256 requirements in range
@@ -58,7 +59,8 @@ sound-within b h e = sums-within (b .records) (sound-places b h) (omega (arith, 
 pub totals-small : (b : Book) → sound b ≡ true → length (b .records) ≡ 256 → TotalsBounded (totals b)
 unfolding totals owed
 totals-small b h e =
-    subst (λ (z : ℤ). TotalsBounded (record { support = b .account .support; held = z; owed = owed b; full = full b })) (held-by b)
+    subst (λ (t : Account). TotalsBounded (record { support = t .support; held = t .held; owed = t .owed; full = full b }))
+    (λ i. record { support = b .account .support; held = (held-by b ∙ sym (kept-held b h)) i; owed = sym (kept-owed b h) i })
     (totals-bounded (b .account .support) (full b) (sumsOf (b .records)) (sound-within b h e))
 
 -- what a message sees of a sound book
@@ -70,7 +72,7 @@ pub record Sees (b : Book) (k : Key) (s : View) : Type 0 where
 
 -- the book after an ending, and the answer; past the last place nothing is written
 abbrev pub written : Book → Ending → Outcome
-written b e = record { book = rebook b (e .account) (set (b .records) (e .place) (e .new)); answer = e .answer }
+written b e = record { book = record { records = set (b .records) (e .place) (e .new); account = e .account }; answer = e .answer }
 
 as-planned : (v : Verdict Deed) → asVerdict (planned v) ≡ v
 as-planned (refuse n) = refl
@@ -94,35 +96,31 @@ module _ (b : Book) (m : Message) (ms : List ℕ) (ps : List ℤ) (s : View) (fe
   -- ---- not sound
   ends-unsound : sound b ≡ false → (v : Verdict Deed) → written b (unsound s) ≡ outcome b (concluded b v)
   unfolding outcome concluded heldAnswered owedAnswered unsound
-  ends-unsound h v = rw h (rw h (λ i. record { book = rebook b (account-so i) (untouched i); answer = Refused 1 (pos 0) (pos 0) }))
+  ends-unsound h v = rw h (rw h (λ i. record { book = record { records = untouched i; account = account-so i }; answer = Refused 1 (pos 0) (pos 0) }))
 
   module _ (h : sound b ≡ true) where
     abbrev walk : Sees b (keyOf m) s
     walk = sees h
 
-    -- held and net owed, as the sums have them, whatever is kept beside the places
-    held-with : (a : Account) → heldOf (s .sums .unbilled) (s .sums .owed) ≡ held (rebook b a rs)
-    held-with a = ap (λ (t : Sums). heldOf (t .unbilled) (t .owed)) (walk .sums) ∙ held-by (rebook b a rs)
+    -- held and net owed, as they are kept
+    held-so : s .account .held ≡ held b
+    held-so = ap (λ (a : Account). a .held) account-so ∙ kept-held b h
 
-    held-so : heldOf (s .sums .unbilled) (s .sums .owed) ≡ held b
-    held-so = held-with (b .account)
-
-    owed-so : s .sums .owed ≡ owed b
-    unfolding owed
-    owed-so = ap (λ (t : Sums). t .owed) (walk .sums)
+    owed-so : s .account .owed ≡ owed b
+    owed-so = ap (λ (a : Account). a .owed) account-so ∙ kept-owed b h
 
     totals-so : totalsOf s ≡ totals b
     unfolding totals full
     totals-so = λ i. record {
       support = account-so i .support;
-      held = held-so i;
-      owed = owed-so i;
+      held = account-so i .held;
+      owed = account-so i .owed;
       full = (ap (λ (n : ℕ). eqb n 256) (walk .lowest) ∙ ap (eqb (index isFree rs)) (sym few) ∙ sym (missing-index isFree rs)) i;
     }
 
     ends-refused : (n : ℕ) → written b (turnedAway s n) ≡ outcome b (refuse n)
     unfolding outcome heldAnswered owedAnswered turnedAway
-    ends-refused n = rw h (λ i. record { book = rebook b (account-so i) (untouched i); answer = Refused n (held-so i) (owed-so i) })
+    ends-refused n = rw h (λ i. record { book = record { records = untouched i; account = account-so i }; answer = Refused n (held-so i) (owed-so i) })
 
     -- ---- the next book and its sums
     module _ (q : Record → Bool) (place : ℕ) (was new : Record) (c : Change) (found : place ≡ index q rs) (changed : swap q new rs ≡ change c rs) (answers : new .requirement ≡ answeredBy (Keyed c))
@@ -134,11 +132,15 @@ module _ (b : Book) (m : Message) (ms : List ℕ) (ps : List ℤ) (s : View) (fe
       next-sums : withRecord (withoutRecord (s .sums) was) new ≡ sumsOf (change c rs)
       next-sums = λ i. record { unbilled = after unbilledOf unbilled-blank (s .sums .unbilled) (λ j. walk .sums j .unbilled) i; owed = after owes owes-blank (s .sums .owed) (λ j. walk .sums j .owed) i }
 
+      next-held : heldOf (withRecord (withoutRecord (s .sums) was) new .unbilled) (withRecord (withoutRecord (s .sums) was) new .owed) ≡ heldOver (change c rs)
+      unfolding held
+      next-held = ap (λ (t : Sums). heldOf (t .unbilled) (t .owed)) next-sums ∙ held-by (rebook b (b .account) (change c rs))
+
       ends-put : written b (putIn s place was new) ≡ outcome b (accept (Keyed c))
-      unfolding outcome done putIn owed
+      unfolding outcome done putIn held owed
       ends-put = λ i. record {
-        book = rebook b (account-so i) ((ap (λ (n : ℕ). set rs n new) found ∙ sym (swap-set q new rs) ∙ changed) i);
-        answer = Accepted (answers i) ((ap (λ (t : Sums). heldOf (t .unbilled) (t .owed)) next-sums ∙ held-by (rebook b (b .account) (change c rs))) i) (next-sums i .owed);
+        book = record { records = (ap (λ (n : ℕ). set rs n new) found ∙ sym (swap-set q new rs) ∙ changed) i; account = totalled (account-so i) (next-held i) (next-sums i .owed) };
+        answer = Accepted (answers i) (next-held i) (next-sums i .owed);
       }
 
     ends-changed : (c : Change) → Fits old m (Keyed c) → None (creditRows (totals b) (Keyed c)) → written b (carriedOut s (Keyed c)) ≡ outcome b (accept (Keyed c))
@@ -157,10 +159,10 @@ module _ (b : Book) (m : Message) (ms : List ℕ) (ps : List ℤ) (s : View) (fe
         (λ g z. ap (λ (x : ℤ). total g (swap (at k) blank rs) +ℤ x) (ap g (walk .under) ∙ ap (weight g) (sym (lookup-some b (keyOf m) (f .used)))) ∙ effect b m (Remove k) h f w .sums g z ∙ ap (λ (x : ℤ). total g rs +ℤ x) (sym z))
 
     ends-carried : (d : Deed) → Fits old m d → None (creditRows (totals b) d) → written b (carriedOut s d) ≡ outcome b (accept d)
-    unfolding outcome done owed
+    unfolding outcome done held owed
     ends-carried (Keyed c) f w = ends-changed c f w
     ends-carried (SetSupport z) f w =
-        λ i. record { book = rebook b (supported (account-so i) z) (untouched i); answer = Accepted (pos 0) (held-with (supported (b .account) z) i) (owed-so i) }
+        λ i. record { book = record { records = untouched i; account = record { support = z; held = held-so i; owed = owed-so i } }; answer = Accepted (pos 0) (held-so i) (owed-so i) }
 
     -- ---- by the plan, and then by 14 to 16
     ends-rows : (d : Deed) → Fits old m d → (v : Verdict Deed) → creditVerdict (totals b) d ≡ v → written b (endingOf s v) ≡ outcome b v
@@ -217,6 +219,7 @@ module _ (b : Book) (m : Message) (ms : List ℕ) (ps : List ℤ) (s : View) (fe
       let h : sound b ≡ true = sym sound-so ∙ t in
       record {
         sums = subst (SumsWithin 332800000000000) (sym (sees h .sums)) (sound-within b h few);
+        totals = subst TotalsBounded (sym (totals-so h)) (totals-small b h few);
         old = ap okPlace (sees h .under) ∙ old-fine h;
         plan = plan-sound h p refl;
       }

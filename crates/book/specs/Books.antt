@@ -1,4 +1,4 @@
--- Document 01, 'The book and its kinds' and 'Numbers': the places of a book, when it is sound, and its totals.
+-- Document 01, 'The book and its kinds' and 'Numbers', and 02, order 1: the places of a book, when it is sound, and its totals.
 -- Assumes nothing.
 use mathlib.Core.Bool.{Bool, true, _&&_, _||_, cond}
 use mathlib.Core.List.{List, [], _∷_}
@@ -10,8 +10,9 @@ use Rattle.keys.specs.declared.Key.{Key}
 use Rattle.records.specs.declared.types.Record.{Record}
 use Rattle.records.specs.Records.{blank, isFree, at, okPlace}
 use Rattle.credit.specs.declared.types.Totals.{Totals}
-use Rattle.credit.specs.Account.{freshAccount}
-use Rattle.credit.specs.Credit.{owes, suspended}
+use Rattle.credit.specs.declared.types.Account.{Account}
+use Rattle.credit.specs.Account.{freshAccount, totalled, keepsTotals}
+use Rattle.credit.specs.Credit.{owes, reachesHalf}
 use Rattle.book.specs.Places.{find, missing, orElseBlank}
 pub use Rattle.book.specs.declared.types.Book.{Book}
 
@@ -24,25 +25,35 @@ unfoldable pub distinct : List Record → Bool
 distinct [] = true
 distinct (r ∷ rs) = (isFree r || missing (find (at (r .key)) rs)) && distinct rs
 
--- 'A book is sound when support is in range, keys are distinct, free places are zero, every field is in its range, ..'
-unfoldable pub sound : Book → Bool
-sound b = isSupport (b .account .support) && every okPlace (b .records) && distinct (b .records)
-
 -- 'Held is the sum of all requirements'
+abbrev pub heldOver : List Record → ℤ
+heldOver places = total (λ r. r .requirement) places
+
 unfoldable pub held : Book → ℤ
-held b = total (λ r. r .requirement) (b .records)
+held b = heldOver (b .records)
 
 -- 'Net owed is the sum over stage 4'
+abbrev pub owedOver : List Record → ℤ
+owedOver places = total owes places
+
 unfoldable pub owed : Book → ℤ
-owed b = total owes (b .records)
+owed b = owedOver (b .records)
+
+-- 'A book is sound when support is in range, keys are distinct, free places are zero, every field is in its range, ..'
+unfoldable pub soundBy01 : ℤ → List Record → Bool
+soundBy01 support places = isSupport support && every okPlace places && distinct places
+
+-- 02, order 1: 'A book whose kept totals differ from its records isn't sound'
+unfoldable pub sound : Book → Bool
+sound b = soundBy01 (b .account .support) (b .records) && keepsTotals (b .account) (held b) (owed b)
 
 -- no place is free
 unfoldable pub full : Book → Bool
 full b = missing (find isFree (b .records))
 
--- all that refusals 14 to 16 see of the book
+-- all that refusals 14 to 16 see of the book: held and net owed as they are kept (02, order 1)
 unfoldable pub totals : Book → Totals
-totals b = record { support = b .account .support; held = held b; owed = owed b; full = full b }
+totals b = record { support = b .account .support; held = b .account .held; owed = b .account .owed; full = full b }
 
 -- what a refusal answers: 'the held and net owed of the unchanged book (both 0 for 1)'; refusal 1 is given exactly where the book is not sound
 unfoldable pub heldAnswered : Book → ℤ
@@ -51,15 +62,15 @@ heldAnswered b = cond (sound b) (held b) (pos 0)
 unfoldable pub owedAnswered : Book → ℤ
 owedAnswered b = cond (sound b) (owed b) (pos 0)
 
--- what a screen is shown: of a book that is not sound, what its refusal answers; and it takes no bid, so it shows as suspended
+-- what a screen is shown (02, order 1): 'Keep both totals in the book and answer from them, reading no record. .. on any other it is the totals as kept'
 unfoldable pub heldShown : Book → ℤ
-heldShown b = cond (sound b) (held b) (pos 0)
+heldShown b = b .account .held
 
 unfoldable pub owedShown : Book → ℤ
-owedShown b = cond (sound b) (owed b) (pos 0)
+owedShown b = b .account .owed
 
 unfoldable pub suspendedShown : Book → Bool
-suspendedShown b = cond (sound b) (suspended (totals b)) true
+suspendedShown b = reachesHalf (b .account .support) (b .account .owed)
 
 -- 'A fresh book is empty, with the support given'
 unfoldable pub noRecords : List Record
@@ -67,3 +78,11 @@ noRecords = replicate 256 blank
 
 abbrev pub empty : ℤ → Book
 empty support = record { records = noRecords; account = freshAccount support }
+
+-- what is kept beside these places: the totals are theirs
+abbrev pub accountOver : Account → List Record → Account
+accountOver account places = totalled account (heldOver places) (owedOver places)
+
+-- 02, order 1: 'a book of the older form is rebuilt first'. Where some place is out of its range the totals are 0: such a book is not sound, whatever they are
+unfoldable pub rebuilt : ℤ → List Record → Book
+rebuilt support places = record { records = places; account = cond (every okPlace places) (accountOver (freshAccount support) places) (freshAccount support) }

@@ -21,7 +21,7 @@ use Rattle.book.specs.Places.{swap}
 use Rattle.credit.specs.declared.types.Account.{Account}
 use Rattle.credit.specs.Account.{supported}
 use Rattle.credit.specs.Credit.{answeredBy}
-use Rattle.book.specs.Books.{Book, lookup, held, owed, heldAnswered, owedAnswered, empty}
+use Rattle.book.specs.Books.{Book, lookup, held, owed, heldAnswered, owedAnswered, empty, accountOver}
 use Rattle.book.specs.Refusals.{table}
 
 -- ---- accepted or refused
@@ -43,9 +43,9 @@ change (Rebid was r) places = swap (at (r .key)) r places
 change (Advance r) places = swap (at (r .key)) r places
 change (Remove k) places = swap (at k) blank places
 
--- the one way in which a book follows from another
+-- the one way in which a book follows from another: it keeps the totals of its places (02, order 1)
 abbrev pub rebook : Book → Account → List Record → Book
-rebook b account places = record { records = places; account = account }
+rebook b account places = record { records = places; account = accountOver account places }
 
 unfoldable pub done : Book → Deed → Book
 done b (Keyed c) = rebook b (b .account) (change c (b .records))

@@ -1,13 +1,12 @@
 // A fresh book, and what a screen asks of a book.
 ghost use mathlib.Core.Path.{_≡_};
 ghost use mathlib.Core.Bool.{cond};
-ghost use Rattle.book.specs.Books.{empty as emptyOf, sound, heldShown, owedShown, suspendedShown, heldAnswered, owedAnswered};
+ghost use Rattle.book.specs.Books.{empty as emptyOf, rebuilt as rebuiltOf, sound, heldShown, owedShown, suspendedShown, heldAnswered, owedAnswered};
 ghost use Rattle.book.specs.Step.{fresh as freshOf};
 use crate::types::Book;
 use crate::types::Outcome;
 use amounts::Amount;
 use credit::types::Account;
-use credit::types::Totals;
 use messages::types::Funding;
 use records::types::Record;
 use refusals::Answer;
@@ -49,25 +48,39 @@ impl Book {
         }
     }
 
-    // What a screen asks is answered by a message that is always refused, as every refusal answers held and net owed: a support out of range.
+    // A book of the older form, which kept no totals: these places with theirs. Where some place is out of its range the totals are 0, and the book is not sound.
+    pub fn rebuilt(support: i64, records: [Record; 256]) -> Book
+        ensures { λ b. ⌜ b ≡ rebuiltOf support records ⌝ }
+    {
+        let account = Account::fresh(support);
+        let totalled = account.summed(walk::sums_of(records));
+        Book {
+            records,
+            account: totalled,
+        }
+    }
+
+    // Whether a book is sound is answered by a message that is always refused: a support out of range.
     fn status(self) -> Answer
         ensures { λ a. ⌜ a ≡ Answer.Refused (cond (sound self) 9 1) (heldAnswered self) (owedAnswered self) ⌝ }
     {
         self.support(Funding { cents: -1 }).answer
     }
 
-    // Credit held; 0 for a book that is not sound.
+    // Credit held, as it is kept.
     pub fn held(self) -> i64
         ensures { λ z. ⌜ z ≡ heldShown self ⌝ }
     {
-        self.status().held()
+        let account = self.account;
+        account.held
     }
 
-    // The net billed amount; 0 for a book that is not sound.
+    // The net billed amount, as it is kept.
     pub fn net_owed(self) -> i64
         ensures { λ z. ⌜ z ≡ owedShown self ⌝ }
     {
-        self.status().net_owed()
+        let account = self.account;
+        account.owed
     }
 
     pub fn is_sound(self) -> bool
@@ -76,17 +89,11 @@ impl Book {
         !(self.status().number() == 1)
     }
 
-    // A book that is not sound takes no bid, so it shows as suspended.
+    // By the support and the net billed amount, as they are kept.
     pub fn suspended(self) -> bool
         ensures { λ r. ⌜ r ≡ suspendedShown self ⌝ }
     {
-        let answer = self.status();
-        let totals = Totals {
-            support: self.account.support,
-            held: answer.held(),
-            owed: answer.net_owed(),
-            full: false,
-        };
-        (answer.number() == 1) | totals.is_suspended()
+        let account = self.account;
+        account.suspended()
     }
 }

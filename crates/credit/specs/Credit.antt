@@ -19,8 +19,11 @@ unfoldable pub owes : Record → ℤ
 owes r = cond (eqb (r .stage) billedStage) (r .requirement) (pos 0)
 
 -- 'The book is suspended exactly when 2 x net owed is at least the support'
+abbrev pub reachesHalf : ℤ → ℤ → Bool
+reachesHalf support owed = leZ support (pos 2 *ℤ owed)
+
 unfoldable pub suspended : Totals → Bool
-suspended t = leZ (t .support) (pos 2 *ℤ t .owed)
+suspended t = reachesHalf (t .support) (t .owed)
 
 -- 14 'open or revise while suspended', 15 'open with 256 records', 16 'open: held + requirement above support;
 -- revise: the new requirement is above the old and held afterwards is above support'

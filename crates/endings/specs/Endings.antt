@@ -23,8 +23,8 @@ use Rattle.credit.specs.declared.types.Account.{Account}
 use Rattle.credit.specs.declared.types.Sums.{Sums}
 use Rattle.credit.specs.Account.{supported}
 use Rattle.credit.specs.Credit.{creditRows}
-use Rattle.credit.specs.Sums.{withRecord, withoutRecord, heldOf}
-use Rattle.credit.specs.NoOverflow.{SumsWithin}
+use Rattle.credit.specs.Sums.{withRecord, withoutRecord, summed, keepsSums}
+use Rattle.credit.specs.NoOverflow.{SumsWithin, TotalsBounded}
 use Rattle.refusals.specs.declared.Answer.{Answer}
 use Rattle.refusals.specs.declared.Answer.the-variants.{Accepted, Refused}
 pub use Rattle.endings.specs.declared.types.View.{View}
@@ -32,11 +32,11 @@ pub use Rattle.endings.specs.declared.types.Ending.{Ending}
 
 -- ---- what a message sees
 
--- once a walk has passed every place: the keys' numbers stand apart, and so on
+-- once a walk has passed every place: the keys' numbers stand apart, the kept totals are the sums' (02, order 1), and so on
 abbrev pub viewOf : Walk → Account → List ℕ → Record → View
 viewOf s account codes old =
     record {
-      sound = s .ranged && isSupport (account .support) && allDistinct codes;
+      sound = s .ranged && isSupport (account .support) && allDistinct codes && keepsSums account (s .sums);
       account = account;
       sums = s .sums;
       free = s .free;
@@ -46,7 +46,7 @@ viewOf s account codes old =
 
 -- what refusals 14 to 16 see of it
 abbrev pub totalsOf : View → Totals
-totalsOf s = record { support = s .account .support; held = heldOf (s .sums .unbilled) (s .sums .owed); owed = s .sums .owed; full = eqb (s .free) 256 }
+totalsOf s = record { support = s .account .support; held = s .account .held; owed = s .account .owed; full = eqb (s .free) 256 }
 
 -- ---- that no sum leaves an i64; no function of `Book` asks it
 
@@ -65,6 +65,7 @@ PlanSound (Asks d) = DeedSound d
 -- all that an ending adds up is in range
 pub record Summable (s : View) (p : Planned) : Type 0 where
   pub sums : SumsWithin 332800000000000 (s .sums)
+  pub totals : TotalsBounded (totalsOf s)
   pub old : okPlace (s .old) ≡ true
   pub plan : PlanSound p
 
@@ -84,12 +85,12 @@ pass t (accept d) = creditVerdict t d
 
 -- ---- the ways in which a message ends; at 256 nothing is written
 
--- held and net owed of these sums are answered
-abbrev pub accepting : ℤ → Sums → Answer
-accepting requirement t = Accepted requirement (heldOf (t .unbilled) (t .owed)) (t .owed)
+-- the kept held and net owed are answered
+abbrev pub accepting : ℤ → Account → Answer
+accepting requirement account = Accepted requirement (account .held) (account .owed)
 
-abbrev pub refusing : ℕ → Sums → Answer
-refusing number t = Refused number (heldOf (t .unbilled) (t .owed)) (t .owed)
+abbrev pub refusing : ℕ → Account → Answer
+refusing number account = Refused number (account .held) (account .owed)
 
 abbrev pub unwritten : Answer → Account → Ending
 unwritten answer account = record { answer = answer; account = account; place = 256; new = blank }
@@ -98,14 +99,17 @@ unfoldable pub unsound : View → Ending
 unsound s = unwritten (Refused 1 (pos 0) (pos 0)) (s .account)
 
 unfoldable pub turnedAway : View → ℕ → Ending
-turnedAway s n = unwritten (refusing n (s .sums)) (s .account)
+turnedAway s n = unwritten (refusing n (s .account)) (s .account)
 
--- a record in another's stead
+-- a record in another's stead: what is kept with the totals of the next sums
+abbrev pub accountAfter : View → Record → Record → Account
+accountAfter s was new = summed (s .account) (withRecord (withoutRecord (s .sums) was) new)
+
 unfoldable pub putIn : View → ℕ → Record → Record → Ending
 putIn s place was new =
     record {
-      answer = accepting (new .requirement) (withRecord (withoutRecord (s .sums) was) new);
-      account = s .account;
+      answer = accepting (new .requirement) (accountAfter s was new);
+      account = accountAfter s was new;
       place = place;
       new = new;
     }
@@ -115,7 +119,7 @@ carriedOut s (Keyed (Add r)) = putIn s (s .free) blank r
 carriedOut s (Keyed (Rebid was r)) = putIn s (s .at) (s .old) r
 carriedOut s (Keyed (Advance r)) = putIn s (s .at) (s .old) r
 carriedOut s (Keyed (Remove k)) = putIn s (s .at) (s .old) blank
-carriedOut s (SetSupport support) = unwritten (accepting (pos 0) (s .sums)) (supported (s .account) support)
+carriedOut s (SetSupport support) = unwritten (accepting (pos 0) (supported (s .account) support)) (supported (s .account) support)
 
 unfoldable pub endingOf : View → Verdict Deed → Ending
 endingOf s (refuse n) = turnedAway s n

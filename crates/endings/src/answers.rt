@@ -1,28 +1,25 @@
-// An answer with a book's sums.
+// An answer with the totals that a book keeps.
 ghost use mathlib.Core.Path.{_≡_};
-ghost use Rattle.credit.specs.NoOverflow.{SumsWithin};
 ghost use Rattle.endings.specs.Endings.{accepting as acceptingWith, refusing as refusingWith};
-use credit::types::Sums;
+use credit::types::Account;
 use refusals::Answer;
 
-pub(crate) fn accepting(requirement: i64, sums: Sums) -> Answer
-    requires { ⌜ SumsWithin 400000000000000 sums ⌝ }
-    ensures { λ a. ⌜ a ≡ acceptingWith requirement sums ⌝ }
+pub(crate) fn accepting(requirement: i64, account: Account) -> Answer
+    ensures { λ a. ⌜ a ≡ acceptingWith requirement account ⌝ }
 {
     Answer::Accepted {
         requirement,
-        held: sums.held(),
-        owed: sums.owed,
+        held: account.held,
+        owed: account.owed,
     }
 }
 
-pub(crate) fn refusing(number: u64, sums: Sums) -> Answer
-    requires { ⌜ SumsWithin 400000000000000 sums ⌝ }
-    ensures { λ a. ⌜ a ≡ refusingWith number sums ⌝ }
+pub(crate) fn refusing(number: u64, account: Account) -> Answer
+    ensures { λ a. ⌜ a ≡ refusingWith number account ⌝ }
 {
     Answer::Refused {
         number,
-        held: sums.held(),
-        owed: sums.owed,
+        held: account.held,
+        owed: account.owed,
     }
 }

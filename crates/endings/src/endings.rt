@@ -36,6 +36,7 @@ impl Ending {
 impl View {
     // What is seen of a book that keeps this account, once the walk has passed every place.
     pub fn of(walk: Walk, account: Account, codes: &[u64; 256], old: Record) -> View
+        requires { ⌜ SumsWithin 332800000000000 (walk .sums) ⌝ }
         ensures { λ s. ⌜ s ≡ viewOf walk account (now (codes .entry)) old ⌝ }
     {
         let amount = Amount {
@@ -43,7 +44,10 @@ impl View {
         };
         let sums = walk.sums;
         View {
-            sound: walk.ranged & amount.is_support() & distinct::all_distinct(codes),
+            sound: walk.ranged
+                & amount.is_support()
+                & distinct::all_distinct(codes)
+                & account.keeps(sums),
             account,
             sums,
             free: walk.free,
@@ -53,25 +57,22 @@ impl View {
     }
 
     fn totals(self) -> Totals
-        requires { ⌜ SumsWithin 332800000000000 (self .sums) ⌝ }
         ensures { λ t. ⌜ t ≡ totalsOf self ⌝ }
     {
         let account = self.account;
-        let sums = self.sums;
         Totals {
             support: account.support,
-            held: sums.held(),
-            owed: sums.owed,
+            held: account.held,
+            owed: account.owed,
             full: self.free == Walk::NOWHERE,
         }
     }
 
     fn refused(self, number: u64) -> Ending
-        requires { ⌜ SumsWithin 332800000000000 (self .sums) ⌝ }
         ensures { λ e. ⌜ e ≡ turnedAway self number ⌝ }
     {
         let account = self.account;
-        Ending::unwritten(refusing(number, self.sums), account)
+        Ending::unwritten(refusing(number, account), account)
     }
 
     // A record in another's stead.
@@ -83,10 +84,10 @@ impl View {
     {
         let account = self.account;
         let sums = self.sums;
-        let next = sums.without(was).with(new);
+        let next = account.summed(sums.without(was).with(new));
         Ending {
             answer: accepting(new.requirement, next),
-            account,
+            account: next,
             place,
             new,
         }
@@ -105,11 +106,11 @@ impl View {
     }
 
     fn funded(self, support: i64) -> Ending
-        requires { ⌜ SumsWithin 332800000000000 (self .sums) ⌝ }
         ensures { λ e. ⌜ e ≡ carriedOut self (Deed.SetSupport support) ⌝ }
     {
         let account = self.account;
-        Ending::unwritten(accepting(0, self.sums), account.supported(support))
+        let next = account.supported(support);
+        Ending::unwritten(accepting(0, next), next)
     }
 
     fn carried(self, deed: Deed) -> Ending

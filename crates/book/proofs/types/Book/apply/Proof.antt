@@ -15,13 +15,17 @@ use Rattle.records.specs.declared.types.Record.{Record}
 use Rattle.records.specs.Records.{blank, at}
 use Rattle.messages.specs.declared.types.Message.{Message}
 use Rattle.messages.specs.Plan.{keyOf, plan, planned}
-use Rattle.book.specs.Books.{Book, lookup, sound}
-use Rattle.book.specs.Step.{rebook, step}
+use Rattle.credit.specs.declared.types.Sums.{Sums}
+use Rattle.credit.specs.Account.{keepsTotals}
+use Rattle.credit.specs.Sums.{heldOf, keepsSums}
+use Rattle.book.specs.Books.{Book, lookup, sound, held, owed}
+use Rattle.book.specs.Step.{step}
 use Rattle.endings.specs.declared.types.View.{View}
 use Rattle.endings.specs.Endings.{viewOf, Summable, asVerdict, ended}
 use Rattle.walk.specs.declared.types.Walk.{Walk}
 use Rattle.credit.proofs.Parts.{sums-wider}
 use Rattle.book.proofs.Passed.{index}
+use Rattle.book.proofs.Sums.{held-by}
 use Rattle.book.proofs.Codes.{sound-by}
 use Rattle.book.proofs.Walked.{Walked, begun, walked-more, all-ranged, all-coded, free-is, place-is, summed, looked-up}
 use Rattle.book.proofs.Written.{Sees, written, ends, summable}
@@ -89,7 +93,7 @@ old-requires : tie.Need-old-requires Inv-loop μ-loop
 old-requires c κs = tt
 
 of-requires : tie.Need-of-requires Inv-loop μ-loop
-of-requires c κs = tt
+of-requires c κs = c .before .before .before .before .before .loop .inv .light
 
 plan-of-requires : tie.Need-plan-of-requires Inv-loop μ-loop
 plan-of-requires c κs = tt
@@ -137,13 +141,22 @@ module _ (c : tie.After-plan-of Inv-loop μ-loop) where
       let z : passed .before .loop .i ≡ 0 = omega (arith, passed .loop-test .left) in
       subst (λ (n : ℕ). Walked key (b .records) codes walk n) z (passed .before .loop .inv)
 
+  -- the sums of the walk, where every place is in range, are those that the totals are held to
+  keeps-so : walk .ranged ≡ true → keepsSums (b .account) (walk .sums) ≡ keepsTotals (b .account) (held b) (owed b)
+  unfolding owed
+  keeps-so e =
+      let s = summed b key codes walk few walked e in
+      λ i. keepsTotals (b .account) ((ap (λ (t : Sums). heldOf (t .unbilled) (t .owed)) s ∙ held-by b) i) (s i .owed)
+
   sound-so : view .sound ≡ sound b
-  sound-so = sound-by b (walk .ranged) codes (all-ranged b key codes walk few walked) (all-coded b key codes walk few walked)
+  sound-so = sound-by b (walk .ranged) (keepsSums (b .account) (walk .sums)) codes (all-ranged b key codes walk few walked) (all-coded b key codes walk few walked) keeps-so
 
   sees : sound b ≡ true → Sees b (keyOf m) view
   sees h =
       let rs = b .records in
-      let ranged = and-left (walk .ranged) (isSupport (b .account .support)) (and-left (walk .ranged && isSupport (b .account .support)) (allDistinct codes) (sound-so ∙ h)) in
+      let kept = keepsSums (b .account) (walk .sums) in
+      let places = and-left (walk .ranged && isSupport (b .account .support) && allDistinct codes) kept (sound-so ∙ h) in
+      let ranged = and-left (walk .ranged) (isSupport (b .account .support)) (and-left (walk .ranged && isSupport (b .account .support)) (allDistinct codes) places) in
       record {
         sums = summed b key codes walk few walked ranged;
         lowest = free-is b key codes walk few walked ranged;
@@ -184,7 +197,7 @@ returns-2 c =
     let e = c .before .before .before .ending in
     let b = c .before .before .before .before .before .before .before .before .before .before .before .before .before .before .before .args .self in
     let past : length (b .records) ≤ e .result .place = omega (arith, size (c .before .before .before .before .before .before .before .before .before .before .before .before .before .before .before), c .if1 .left) in
-    (λ i. record { book = rebook b (e .result .account) (sym (set-out (b .records) (e .result .place) (e .result .new) past) i); answer = e .result .answer })
+    (λ i. record { book = record { records = sym (set-out (b .records) (e .result .place) (e .result .new) past) i; account = e .result .account }; answer = e .result .answer })
     ∙ ap (written b) (e .ensures)
     ∙ ends-so (c .before .before .before .before)
 

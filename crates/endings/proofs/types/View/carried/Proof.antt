@@ -17,7 +17,6 @@ use Rattle.records.proofs.Bounds.{requirement-bounded}
 use Rattle.credit.specs.declared.types.Totals.{Totals}
 use Rattle.credit.specs.NoOverflow.{TotalsBounded, DeedBounded}
 use Rattle.credit.specs.Credit.{creditRows}
-use Rattle.credit.proofs.Parts.{totals-bounded}
 use Rattle.endings.specs.Endings.{DeedSound, totalsOf, creditVerdict, carriedOut, endingOf}
 use Rattle.endings.proofs.types.View.carried.Statement.{statement}
 use Rattle.endings.proofs.types.View.carried.Tie as tie
@@ -41,19 +40,19 @@ module _ (t : Totals) (d : Deed) where
   rows-accepted n e z = rw (← e, z) (answered-none d)
 
 totals-requires : tie.Need-totals-requires
-totals-requires c κs = c .pre .sums
+totals-requires c κs = tt
 
 refusal-requires : tie.Need-refusal-requires
 refusal-requires c κs =
     let s = c .before in
-    (subst TotalsBounded (sym (c .totals .ensures)) (totals-bounded (s .args .self .account .support) (eqb (s .args .self .free) 256) (s .args .self .sums) (s .pre .sums)), bounded (s .args .deed) (s .pre .plan))
+    (subst TotalsBounded (sym (c .totals .ensures)) (s .pre .totals), bounded (s .args .deed) (s .pre .plan))
 
 -- the first row that applies to the totals
 told : (c : tie.After-refusal) → c .refusal .result ≡ first (creditRows (totalsOf (c .before .before .args .self)) (c .before .before .args .deed))
 told c = c .refusal .ensures ∙ ap (λ (t : Totals). first (creditRows t (c .before .before .args .deed))) (c .before .totals .ensures)
 
 refused-requires : tie.Need-refused-requires
-refused-requires c κs = c .before .before .before .pre .sums
+refused-requires c κs = tt
 
 returns : tie.Need-returns
 unfolding endingOf
@@ -76,13 +75,13 @@ enum-known-deed c = search needs
 changed-requires : tie.Need-changed-requires
 changed-requires c κs =
     let s = c .before .before .before .before .before .before in
-    record { sums = s .pre .sums; old = s .pre .old; plan = subst DeedSound (c .before .deed .given .1) (s .pre .plan) }
+    record { sums = s .pre .sums; totals = s .pre .totals; old = s .pre .old; plan = subst DeedSound (c .before .deed .given .1) (s .pre .plan) }
 
 enum-known-deed-2 : tie.Need-enum-known-deed-2
 enum-known-deed-2 c = search needs
 
 funded-requires : tie.Need-funded-requires
-funded-requires c κs = c .before .before .before .before .before .before .pre .sums
+funded-requires c κs = tt
 
 returns-2 : tie.Need-returns-2
 unfolding endingOf

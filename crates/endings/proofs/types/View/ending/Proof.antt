@@ -32,7 +32,7 @@ enum-known-plan : tie.Need-enum-known-plan
 enum-known-plan c = search needs
 
 refused-requires : tie.Need-refused-requires
-refused-requires c κs = c .before .before .before .before .before .pre (not-false _ (c .before .before .before .if1 .left)) .sums
+refused-requires c κs = tt
 
 enum-known-plan-2 : tie.Need-enum-known-plan-2
 enum-known-plan-2 c = search needs

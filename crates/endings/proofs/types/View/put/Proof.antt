@@ -3,8 +3,9 @@ use mathlib.Core.Path.{_≡_, _∙_, sym, ap, subst}
 use native.Mathlib.Omega.{arith}
 use Rattle.amounts.proofs.Steps.{read}
 use Rattle.records.proofs.Bounds.{requirement-bounded}
+use Rattle.credit.specs.declared.types.Account.{Account}
 use Rattle.credit.specs.declared.types.Sums.{Sums}
-use Rattle.credit.specs.Sums.{withRecord, withoutRecord}
+use Rattle.credit.specs.Sums.{withRecord, withoutRecord, summed}
 use Rattle.credit.specs.NoOverflow.{SumsWithin}
 use Rattle.credit.proofs.Parts.{sums-wider, with-within, without-within}
 use Rattle.endings.specs.Endings.{putIn, accepting}
@@ -36,22 +37,29 @@ with-requires c κs =
 next-is : (c : tie.After-with) → c .with .result ≡ next (c .before .before .before .before)
 next-is c = c .with .ensures ∙ ap (λ (x : Sums). withRecord x (c .before .before .before .before .args .new)) (c .before .without .ensures)
 
+summed-requires : tie.Need-summed-requires
+summed-requires c κs =
+    let s = c .before .before .before .before in
+    subst (SumsWithin 400000000000000) (sym (next-is c)) (sums-wider (next s) (next-within s) (omega arith))
+
+-- what is kept of the next book
+account-is : (c : tie.After-summed) → c .summed .result ≡ summed (c .before .before .before .before .before .args .self .account) (next (c .before .before .before .before .before))
+account-is c = c .summed .ensures ∙ ap (summed (c .before .before .before .before .before .args .self .account)) (next-is (c .before))
+
 accepting-requires : tie.Need-accepting-requires
-accepting-requires c κs =
-    let s = c .before .before .before .before .before in
-    subst (SumsWithin 400000000000000) (sym (next-is (c .before))) (sums-wider (next s) (next-within s) (omega arith))
+accepting-requires c κs = tt
 
 returns : tie.Need-returns
 unfolding putIn
 returns c =
-    let s = c .before .before .before .before .before .before in
+    let s = c .before .before .before .before .before .before .before in
     let requirement = read (requirement-bounded (s .args .new) (s .pre .1 .1)) tt in
     λ i. record {
-      answer = (c .accepting .ensures ∙ (λ j. accepting (requirement .is j) (next-is (c .before .before) j))) i;
-      account = s .args .self .account;
+      answer = (c .accepting .ensures ∙ (λ j. accepting (requirement .is j) (account-is (c .before .before) j))) i;
+      account = account-is (c .before .before) i;
       place = s .args .place;
       new = s .args .new;
     }
 
 pub put-spec : {M : Type 1} → statement M
-put-spec = tie.close (tie.spec without-requires with-requires accepting-requires returns)
+put-spec = tie.close (tie.spec without-requires with-requires summed-requires accepting-requires returns)

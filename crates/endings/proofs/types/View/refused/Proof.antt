@@ -1,14 +1,12 @@
--- `View::refused`: a refusal answers the sums as they are.
+-- `View::refused`: a refusal answers the totals as they are kept.
 use mathlib.Core.Path.{_∙_, ap}
-use native.Mathlib.Omega.{arith}
-use Rattle.credit.proofs.Parts.{sums-wider}
 use Rattle.refusals.specs.declared.Answer.{Answer}
 use Rattle.endings.specs.Endings.{unwritten, turnedAway}
 use Rattle.endings.proofs.types.View.refused.Statement.{statement}
 use Rattle.endings.proofs.types.View.refused.Tie as tie
 
 refusing-requires : tie.Need-refusing-requires
-refusing-requires c κs = let s = c .before in sums-wider (s .args .self .sums) (s .pre) (omega arith)
+refusing-requires c κs = tt
 
 unwritten-requires : tie.Need-unwritten-requires
 unwritten-requires c κs = tt
