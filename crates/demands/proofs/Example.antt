@@ -22,9 +22,10 @@ use Rattle.records.specs.Records.{isBlank, isFree, at, keeps, okRecord, okPlace
 use Rattle.messages.specs.declared.types.Message.{Message}
 use Rattle.messages.specs.declared.types.Message.the-variants.{Open, Post, Finish, Bill, Pay, Support}
 use Rattle.messages.specs.Plan.{bidFor, postedFor, finishedFor, stageRows}
+use Rattle.credit.specs.Account.{sameCents, keepsTotals}
 use Rattle.credit.specs.Credit.{owes, suspended}
 use Rattle.book.specs.Places.{find, swap, missing, orElseBlank}
-use Rattle.book.specs.Books.{lookup, distinct, sound, held, owed, full, totals, noRecords}
+use Rattle.book.specs.Books.{lookup, distinct, soundBy01, sound, held, owed, full, totals, noRecords}
 use Rattle.book.specs.Refusals.{table}
 use Rattle.book.specs.Step.{deedOf, verdict, change, done, outcome, step, fresh}
 use Rattle.demands.specs.Runs.{after}
@@ -114,7 +115,7 @@ record Seen : Type 0 where
   whole-owed : owed (wholeBook support run) ≡ pos 25000
 
 seen : Seen
-unfolding Accepted requirements Fair Follows owner whole part after fresh step verdict outcome done change deedOf table judge answered first lookup find swap missing orElseBlank sound every distinct okPlace okRecord keeps isBlank isFree sameKey at noRecords totals held owed owes full suspended sum bidFor postedFor finishedFor keyRows stageRows pointRows deliveryRows bidRows postedRows finishedRows billRows bidVerdict postedVerdict finishedVerdict bidMwh bidRequirement postedRequirement finishedRequirement byKind rulesOf importBid importPosted balancing importFinished unlessExempt exportBid hourAheadBid exportPosted exportFinished hourAheadFinished wheelPosted wheelFinished largestMwh totalMwh mwhAt tried exposure wheelExposure
+unfolding Accepted requirements Fair Follows owner whole part after fresh step verdict outcome done change deedOf table judge answered first lookup find swap missing orElseBlank sound soundBy01 keepsTotals sameCents every distinct okPlace okRecord keeps isBlank isFree sameKey at noRecords totals held owed owes full suspended sum bidFor postedFor finishedFor keyRows stageRows pointRows deliveryRows bidRows postedRows finishedRows billRows bidVerdict postedVerdict finishedVerdict bidMwh bidRequirement postedRequirement finishedRequirement byKind rulesOf importBid importPosted balancing importFinished unlessExempt exportBid hourAheadBid exportPosted exportFinished hourAheadFinished wheelPosted wheelFinished largestMwh totalMwh mwhAt tried exposure wheelExposure
 seen =
     record {
       accepted = (refl, (refl, (refl, (refl, (refl, (refl, (refl, (refl, (refl, (refl, (refl, (refl, (refl, tt)))))))))))));

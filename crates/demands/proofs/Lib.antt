@@ -5,6 +5,7 @@ pub mod Soundness
 pub mod One
 pub mod Requirements
 pub mod Two
+pub mod OrderOne
 pub mod Top
 pub mod Room
 pub mod Deal

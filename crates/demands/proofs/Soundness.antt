@@ -1,6 +1,6 @@
 -- A sound book stays sound under every message, and a fresh book is sound.
 -- Assumes nothing.
-use mathlib.Core.Path.{_≡_, refl, sym, subst}
+use mathlib.Core.Path.{_≡_, refl, sym, ap, _∙_, subst}
 use mathlib.Core.Bool.{Bool, true, false, cond, _&&_}
 use mathlib.Core.List.{List, [], _∷_}
 use Prim.Native.Nat.{ℕ}
@@ -8,13 +8,15 @@ use lib.Dec.{eqb}
 use lib.IntN.{ℤ, pos}
 use borrow.Author.Tests.{eqb-true, eqb-false}
 use Rattle.amounts.specs.Limits.{isSupport}
-use Rattle.amounts.specs.Lists.{every}
+use Rattle.amounts.specs.Lists.{sum, every}
 use Rattle.refusals.proofs.Laws.{and-left, and-right}
 use Rattle.messages.specs.declared.types.Message.{Message}
 use Rattle.records.specs.Records.{isBlank, isFree, okPlace}
+use Rattle.credit.specs.declared.types.Account.{Account}
 use Rattle.credit.specs.Account.{freshAccount}
+use Rattle.credit.specs.Credit.{owes}
 use Rattle.book.specs.declared.types.Book.{Book}
-use Rattle.book.specs.Books.{sound, distinct, noRecords, empty}
+use Rattle.book.specs.Books.{sound, distinct, noRecords, empty, accountOver}
 use Rattle.book.specs.declared.types.Outcome.{Outcome}
 use Rattle.refusals.specs.declared.Answer.the-variants.{Accepted, Refused}
 use Rattle.book.specs.Step.{fresh, step, deedOf}
@@ -47,11 +49,17 @@ empty-places : every okPlace noRecords && distinct noRecords ≡ true
 unfolding noRecords every okPlace isBlank distinct isFree
 empty-places = refl
 
+-- and their totals are 0: another
+empty-totals : (z : ℤ) → accountOver (freshAccount z) noRecords ≡ freshAccount z
+unfolding noRecords sum owes
+empty-totals z = refl
+
 pub empty-sound : (z : ℤ) → isSupport z ≡ true → sound (empty z) ≡ true
 empty-sound z h =
     let places = every okPlace noRecords in
     let apart = distinct noRecords in
-    sound-make (empty z) (freshAccount z) noRecords h (and-left places apart empty-places) (and-right places apart empty-places)
+    ap (λ (a : Account). sound (record { records = noRecords; account = a })) (sym (empty-totals z))
+    ∙ sound-make (empty z) (freshAccount z) noRecords h (and-left places apart empty-places) (and-right places apart empty-places)
 
 fresh-by : (z : ℤ) (t : Bool) → isSupport z ≡ t → (o : Outcome) → o ≡ cond t (record { book = empty z; answer = Accepted (pos 0) (pos 0) (pos 0) }) (record { book = empty (pos 0); answer = Refused 9 (pos 0) (pos 0) }) → sound (o .book) ≡ true
 fresh-by z true e o q = rw q (empty-sound z e)

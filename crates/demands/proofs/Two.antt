@@ -21,7 +21,7 @@ use Rattle.credit.specs.Credit.{owes, suspended}
 use Rattle.book.specs.declared.types.Book.{Book}
 use Rattle.book.specs.Books.{sound, held, owed, totals, suspendedShown, noRecords, empty}
 use Rattle.book.specs.Step.{deedOf, done}
-use Rattle.book.proofs.Kept.{sound-places}
+use Rattle.book.proofs.Kept.{sound-places, kept-owed}
 use Rattle.demands.specs.Runs.{nextBook, replied}
 use Rattle.demands.specs.Two.{supportSet, holds, Acceptance, DemandTwo}
 use Rattle.demands.proofs.Accepted.{taken}
@@ -81,20 +81,22 @@ held-open b h = open-total (b .records) (sound-places b h)
 at-least : (a c : ℤ) → (leZ a c ≡ true) ↔ (a ≤ℤ c)
 at-least a c = (λ e. leZ-yes (subst T (sym e) tt), λ h. tested (leZ a c) (λ e. e) (λ e. absurd (subst T e (h .le))))
 
-suspends : (b : Book) → (suspended (totals b) ≡ true) ↔ (totals b .support ≤ℤ (pos 2 *ℤ owed b))
+suspends : (b : Book) → sound b ≡ true → (suspended (totals b) ≡ true) ↔ (totals b .support ≤ℤ (pos 2 *ℤ owed b))
 unfolding suspended totals
-suspends b = at-least (totals b .support) (pos 2 *ℤ owed b)
+suspends b h =
+    subst (λ (z : ℤ). (leZ (b .account .support) (pos 2 *ℤ z) ≡ true) ↔ (b .account .support ≤ℤ (pos 2 *ℤ owed b))) (sym (kept-owed b h))
+    (at-least (b .account .support) (pos 2 *ℤ owed b))
 
-shows : (b : Book) → sound b ≡ true → suspendedShown b ≡ suspended (totals b)
-unfolding suspendedShown
-shows b h = rw h
+shows : (b : Book) → suspendedShown b ≡ suspended (totals b)
+unfolding suspendedShown suspended totals
+shows b = refl
 
 empty-owes : totals (empty (pos 0)) .support ≤ℤ (pos 2 *ℤ owed (empty (pos 0)))
 unfolding totals owed owes noRecords sum
 empty-owes = leZ-yes tt
 
 empty-suspended : suspendedShown (empty (pos 0)) ≡ true
-empty-suspended = shows (empty (pos 0)) (empty-sound (pos 0) refl) ∙ suspends (empty (pos 0)) .1 empty-owes
+empty-suspended = shows (empty (pos 0)) ∙ suspends (empty (pos 0)) (empty-sound (pos 0) refl) .1 empty-owes
 
 pub demand-two : (b : Book) (m : Message) (mwhs : List ℕ) (prices : List ℤ) → DemandTwo b m mwhs prices
 demand-two b m ms ps =

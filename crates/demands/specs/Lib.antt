@@ -1,5 +1,6 @@
 pub mod Runs
 pub mod One
 pub mod Two
+pub mod OrderOne
 pub mod Three
 pub mod Joining

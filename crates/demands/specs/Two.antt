@@ -98,8 +98,8 @@ module _ (b : Book) (m : Message) (mwhs : List ℕ) (prices : List ℤ) where
     -- 'Credit held is the sum over open transactions'
     pub summed : sound b ≡ true → held b ≡ total holds (b .records)
     -- 'Suspension stands exactly when the net billed amount reaches half the support'; 01: '2 x net owed is at least the support'
-    pub suspension : (suspended (totals b) ≡ true) ↔ (totals b .support ≤ℤ (pos 2 *ℤ owed b))
-    -- which is what a sound book shows
-    pub shown : sound b ≡ true → suspendedShown b ≡ suspended (totals b)
+    pub suspension : sound b ≡ true → (suspended (totals b) ≡ true) ↔ (totals b .support ≤ℤ (pos 2 *ℤ owed b))
+    -- which is what a screen is shown; 02, order 1: by the totals as they are kept
+    pub shown : suspendedShown b ≡ suspended (totals b)
     -- 01: 'An empty book of support 0 is suspended'
     pub emptied : suspendedShown (empty (pos 0)) ≡ true
