@@ -32,6 +32,16 @@ fn answered(book: &mut Book, line: &str) -> String {
             book.support = numbers.signed(0);
             String::new()
         }
+        "make" => {
+            book.held = numbers.signed(0);
+            book.net_owed = numbers.signed(1);
+            String::new()
+        }
+        "rebuild" => {
+            let rebuilt = Book::rebuilt(book.support, book.records);
+            let before = std::mem::replace(book, rebuilt);
+            format!(":{}", compared(&before, book))
+        }
         "look" => fields(&book.records[numbers.place()]),
         "sums" => sums(book),
         _ => match message(word, &numbers) {
@@ -88,13 +98,21 @@ fn message(word: &str, numbers: &Numbers) -> Option<Message> {
 
 fn shown(before: &Book, after: &Book, answer: Answer) -> String {
     format!(
-        ": {} {} {} {} {}",
+        ": {} {} {} {}{}",
         answer.number(),
         answer.requirement,
         answer.held,
         answer.net_owed,
-        if before == after { "same" } else { "changed" }
+        compared(before, after)
     )
+}
+
+fn compared(before: &Book, after: &Book) -> &'static str {
+    if before == after {
+        " same"
+    } else {
+        " changed"
+    }
 }
 
 fn fields(record: &Record) -> String {

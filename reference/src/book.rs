@@ -309,14 +309,19 @@ type Directory = HashMap<Key, usize>;
 
 /// "One book serves one customer. It holds up to 256 open transactions."
 ///
-/// Both fields are open to anyone, so a book may be unsound; such a book
-/// answers refusal 1 to every message.
+/// "Keep both totals in the book" (02, order 1). All fields are open to
+/// anyone, so a book may be unsound; such a book answers refusal 1 to every
+/// message.
 #[derive(Clone, Debug, PartialEq, Eq)]
 pub struct Book {
     /// The places, free ones among them.
     pub records: [Record; limits::PLACES],
     /// Cents.
     pub support: i64,
+    /// Held as kept, cents.
+    pub held: i64,
+    /// Net owed as kept, cents.
+    pub net_owed: i64,
 }
 
 impl Book {
@@ -325,7 +330,26 @@ impl Book {
         Book {
             records: [Record::FREE; limits::PLACES],
             support,
+            held: 0,
+            net_owed: 0,
         }
+    }
+
+    /// "A book of the older form is rebuilt first" (02, order 1): a book of
+    /// this support and these records, and the totals that a walk over them
+    /// finds. Sums of records that are out of range may not fit; such a book
+    /// is not sound whatever it keeps, and keeps 0 and 0.
+    pub fn rebuilt(support: i64, records: [Record; limits::PLACES]) -> Book {
+        let mut book = Book {
+            records,
+            support,
+            held: 0,
+            net_owed: 0,
+        };
+        if book.places_are_sound() {
+            book.keep_totals();
+        }
+        book
     }
 
     /// "A fresh book is empty, with the support given; an out-of-range
@@ -339,16 +363,34 @@ impl Book {
         (book, answer)
     }
 
-    /// "Held is the sum of all requirements."
-    pub fn held(&self) -> i128 {
+    /// "Answer from them, reading no record": held as kept. "On every sound
+    /// book the answer equals the full walk; on any other it is the totals as
+    /// kept" (02, order 1).
+    pub fn held(&self) -> i64 {
+        self.held
+    }
+
+    /// Net owed as kept.
+    pub fn net_owed(&self) -> i64 {
+        self.net_owed
+    }
+
+    /// "The book is suspended exactly when 2 x net owed is at least the
+    /// support", of net owed as kept.
+    pub fn is_suspended(&self) -> bool {
+        2 * i128::from(self.net_owed) >= i128::from(self.support)
+    }
+
+    /// "Held is the sum of all requirements": the full walk.
+    fn walked_held(&self) -> i128 {
         self.records
             .iter()
             .map(|record| i128::from(record.requirement))
             .sum()
     }
 
-    /// "Net owed is the sum over stage 4."
-    pub fn net_owed(&self) -> i128 {
+    /// "Net owed is the sum over stage 4": the full walk.
+    fn walked_net_owed(&self) -> i128 {
         self.records
             .iter()
             .filter(|record| record.stage == BILLED)
@@ -356,21 +398,30 @@ impl Book {
             .sum()
     }
 
-    /// "The book is suspended exactly when 2 x net owed is at least the
-    /// support."
-    pub fn is_suspended(&self) -> bool {
-        2 * self.net_owed() >= i128::from(self.support)
+    /// "A book whose kept totals differ from its records isn't sound."
+    fn totals_are_sound(&self) -> bool {
+        i128::from(self.held) == self.walked_held()
+            && i128::from(self.net_owed) == self.walked_net_owed()
+    }
+
+    /// Keeps the totals of the records as they now stand, each place free or
+    /// sound.
+    fn keep_totals(&mut self) {
+        self.held = cents(self.walked_held());
+        self.net_owed = cents(self.walked_net_owed());
     }
 
     /// "A book is sound when support is in range, keys are distinct, free
-    /// places are zero, every field is in its range" and so on.
+    /// places are zero, every field is in its range" and so on; and when the
+    /// kept totals are those of its records (02, order 1).
     pub fn is_sound(&self) -> bool {
         self.sound_directory().is_some()
     }
 
     /// The directory of a sound book, and none of an unsound one.
     fn sound_directory(&self) -> Option<Directory> {
-        if limits::SUPPORT.contains(&self.support) && self.places_are_sound() {
+        let support_is_sound = limits::SUPPORT.contains(&self.support);
+        if support_is_sound && self.places_are_sound() && self.totals_are_sound() {
             self.directory()
         } else {
             None
@@ -414,6 +465,9 @@ impl Book {
             Message::Pay(payment) => self.pay(&directory, payment),
             Message::Support(support) => self.set_support(support),
         };
+        if outcome.is_ok() {
+            self.keep_totals();
+        }
         self.answer(outcome)
     }
 
@@ -422,8 +476,8 @@ impl Book {
         Answer {
             refusal: outcome.err(),
             requirement: outcome.unwrap_or(0),
-            held: cents(self.held()),
-            net_owed: cents(self.net_owed()),
+            held: self.held,
+            net_owed: self.net_owed,
         }
     }
 
@@ -439,7 +493,7 @@ impl Book {
         require(!directory.contains_key(&key), Refusal::KeyAlreadyOpen)?;
         require(!self.is_suspended(), Refusal::Suspended)?;
         let place = self.lowest_free_place().ok_or(Refusal::BookFull)?;
-        let held_afterwards = self.held() + i128::from(group.requirement);
+        let held_afterwards = i128::from(self.held) + i128::from(group.requirement);
         require(
             held_afterwards <= i128::from(self.support),
             Refusal::AboveSupport,
@@ -466,7 +520,7 @@ impl Book {
         require(!self.is_suspended(), Refusal::Suspended)?;
         let old = self.records[place].requirement;
         let new = group.requirement;
-        let held_afterwards = self.held() - i128::from(old) + i128::from(new);
+        let held_afterwards = i128::from(self.held) - i128::from(old) + i128::from(new);
         let above_support = held_afterwards > i128::from(self.support);
         require(!(new > old && above_support), Refusal::AboveSupport)?;
         self.records[place] = group.record(key);
@@ -565,9 +619,10 @@ const NOT_SOUND: Answer = Answer {
     net_owed: 0,
 };
 
-/// An amount of a sound book, which lies far within the type.
+/// An amount of a sound book, or a sum over sound places, which lies far
+/// within the type.
 fn cents(amount: i128) -> i64 {
-    i64::try_from(amount).expect("amounts of a sound book fit")
+    i64::try_from(amount).expect("amounts of sound places fit")
 }
 
 /// A bid MWh of points in range, which lies far within the type.

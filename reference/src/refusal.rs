@@ -6,7 +6,7 @@
 /// that concern the message."
 #[derive(Clone, Copy, Debug, PartialEq, Eq, PartialOrd, Ord, Hash)]
 pub enum Refusal {
-    /// 1: "book not sound".
+    /// 1: "book not sound". "1 gains the totals" (02, order 1).
     BookNotSound = 1,
     /// 2: "kind not 1 to 4".
     Kind = 2,

@@ -1,5 +1,15 @@
-// How a book set aside is changed: one field of one place, the support, or a key that stands twice, at each limit of soundness and past it.
+// How a book set aside is changed: one field of one place, the support, or a key that stands twice, at each limit of soundness and past it; or its kept
+// totals.
+use crate::values;
+use crate::values::I64_MAX;
+use crate::values::I64_MIN;
+use crate::values::either;
+use crate::values::moved;
+use crate::values::one_less;
+use crate::values::one_more;
+use book::Account;
 use book::Record;
+use book::Stage;
 
 // Fields, 13; for each, 8 values, 6 stages (0 is a free place) and 4 kinds.
 pub(crate) const COUNT: u64 = 2_496;
@@ -9,9 +19,10 @@ pub(crate) const SUPPORT: u64 = 11;
 
 pub(crate) const TWICE: u64 = 12;
 
-const I64_MAX: i64 = 9_223_372_036_854_775_807;
+// The fields from here on: each way to tamper with the kept totals.
+pub(crate) const TOTALS: u64 = 13;
 
-const I64_MIN: i64 = -9_223_372_036_854_775_808;
+pub(crate) const TAMPERINGS: u64 = 16;
 
 // What each of the first 12 fields is set to, 8 values for each.
 const VALUES: [i64; 96] = [
@@ -166,4 +177,59 @@ pub(crate) fn record(change: u64) -> Record {
         _ => (),
     }
     r
+}
+
+// A requirement as the kept totals count it; one of the machine's ends, with which a sum may not fit, is left out.
+fn counted(r: Record) -> i64 {
+    let cents = r.requirement;
+    either(amounts::magnitude(cents) <= 2_000_000_000_000, cents, 0)
+}
+
+fn counted_as_owed(r: Record) -> i64 {
+    either(r.stage == Stage::BILLED, counted(r), 0)
+}
+
+// The kept totals, where a place that had one record has another.
+pub(crate) fn followed(account: Account, old: Record, new: Record) -> Account {
+    Account {
+        support: account.support,
+        held: moved(account.held, counted(old), counted(new)),
+        owed: moved(account.owed, counted_as_owed(old), counted_as_owed(new)),
+    }
+}
+
+fn tampered_held(account: Account, how: u64) -> i64 {
+    let held = account.held;
+    match how {
+        1 | 6 | 7 => one_more(held),
+        2 | 8 => one_less(held),
+        5 => account.owed,
+        9 => 0,
+        10 => I64_MAX,
+        11 => I64_MIN,
+        _ => held,
+    }
+}
+
+fn tampered_owed(account: Account, how: u64) -> i64 {
+    let owed = account.owed;
+    match how {
+        3 | 6 | 8 => one_more(owed),
+        4 | 7 => one_less(owed),
+        5 => account.held,
+        9 => 0,
+        12 => I64_MAX,
+        13 => I64_MIN,
+        14 => values::half(account.support),
+        15 => one_more(values::half(account.support)),
+        _ => owed,
+    }
+}
+
+pub(crate) fn tampered(account: Account, how: u64) -> Account {
+    Account {
+        support: account.support,
+        held: tampered_held(account, how),
+        owed: tampered_owed(account, how),
+    }
 }

@@ -36,7 +36,7 @@ pub(crate) const TESTS: u64 = 708;
 // The lookup: answered, refused.
 pub(crate) const LOOKS: u64 = 712;
 
-// Suspension seen on, and off.
+// Suspension seen on, and off; then a screen told of it, and of none, by totals that are not those of the records.
 pub(crate) const SUSPENSION: u64 = 716;
 
 // A freed place used again; then turns with 0, 255 and 256 open records.
@@ -48,7 +48,10 @@ pub(crate) const EDGES: u64 = 728;
 // Changed books by field: sound, and not sound.
 const CHANGES: u64 = 768;
 
-const FIELDS: u64 = 128;
+const FIELDS: u64 = 96;
+
+// A rebuilt book: a sound one given back; sound again and refused, or accepted; support, keys, or a place still wrong.
+pub(crate) const REBUILT: u64 = 960;
 
 // The faults that concern each message as they are drawn: bit n is fault n. Faults 2 to 4 are in the key, 5 and 8 beside a bid, 6 and 7 in
 // a delivery, 9 in a bill.

@@ -1,7 +1,7 @@
 // A run: turn after turn, each on the book that the last one left.
+use crate::asides;
 use crate::ask;
 use crate::ask::Ask;
-use crate::digest::mix_cents;
 use crate::questions;
 use crate::report;
 use crate::rows;
@@ -52,7 +52,13 @@ fn beside(book: Book, tally: Tally, counts: &mut Counts, ask: Ask) -> Tally {
     let mut next = tally;
     next.digest = questions::answered(tally.seed, tally.digest, counts);
     if tally.turn % 8 == 7 {
-        return trials::probed(book, next, counts, ask);
+        return asides::probed_changed(book, next, counts, ask);
+    }
+    if tally.turn % 16 == 3 {
+        return asides::probed_tampered(book, next, counts, ask);
+    }
+    if tally.turn % 16 == 11 {
+        return asides::probed_rebuilt(book, next, counts, ask);
     }
     if tally.turn % 64 == 0 {
         next.digest = trials::shown(book, next.digest);
@@ -100,7 +106,8 @@ fn begun(tally: Tally, counts: &mut Counts, support: i64) -> Tally {
         pick(answer.number() == 0, rows::FRESH, rows::FRESH + 1),
     );
     let mut next = tally.answered(answer);
-    next.digest = mix_cents(next.digest, outcome.book.account.support);
+    let account = outcome.book.account;
+    next.digest = trials::account_mixed(account, next.digest);
     next
 }
 

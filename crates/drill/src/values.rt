@@ -1,11 +1,12 @@
 // The values that are drawn: each limit, and what is one past it. A row has eight, and a draw takes one of them.
+ghost use Prim.Native.Nat.{_≤_};
 use refusals::pick;
 
 pub(crate) const MOST_SUPPORT: i64 = 1_000_000_000_000_000;
 
-const I64_MAX: i64 = 9_223_372_036_854_775_807;
+pub(crate) const I64_MAX: i64 = 9_223_372_036_854_775_807;
 
-const I64_MIN: i64 = -9_223_372_036_854_775_808;
+pub(crate) const I64_MIN: i64 = -9_223_372_036_854_775_808;
 
 const U64_MAX: u64 = 18_446_744_073_709_551_615;
 
@@ -168,4 +169,38 @@ pub(crate) fn near(cents: u64, w: u64) -> i64 {
 // Twice an amount's distance from 0.
 pub(crate) fn doubled(cents: i64) -> u64 {
     amounts::magnitude(cents) % 1_000_000_000_000_001 * 2
+}
+
+// An amount within 10^15 of zero, as its place on the line from -10^15 on.
+fn on_line(cents: i64) -> u64
+    ensures { λ r. ⌜ r ≤ 2000000000000000 ⌝ }
+{
+    let v = amounts::magnitude(cents) % 1_000_000_000_000_001;
+    if cents < 0 {
+        return 1_000_000_000_000_000 - v;
+    }
+    1_000_000_000_000_000 + v
+}
+
+// The amount at this place of the line.
+fn at(place: u64) -> i64 {
+    (place % 2_000_000_000_000_001) as i64 - MOST_SUPPORT
+}
+
+pub(crate) fn one_more(cents: i64) -> i64 {
+    at(on_line(cents) + 1)
+}
+
+pub(crate) fn one_less(cents: i64) -> i64 {
+    at(on_line(cents) + 2_000_000_000_000_000)
+}
+
+// The sum, where one part of it is another.
+pub(crate) fn moved(cents: i64, old: i64, new: i64) -> i64 {
+    at(on_line(cents) + on_line(new) + 2_000_000_000_000_001 - on_line(old))
+}
+
+// Half of a support, without the odd cent.
+pub(crate) fn half(cents: i64) -> i64 {
+    at(1_000_000_000_000_000 + amounts::magnitude(cents) % 1_000_000_000_000_001 / 2)
 }

@@ -1,7 +1,7 @@
 // Reads what is done to one book from standard input, a line at a time, and writes each line back with the book's answer: the refusal's number or 0,
 // the requirement, held and net owed, and whether the next book is the same. A message is its word and its numbers, in document 01's order, with
-// the points of an open or a revise last; other lines begin a fresh book, look at a place or at the sums (support, held, net owed), or make
-// a book that no message makes (`write` a place, `endow` with a support).
+// the points of an open or a revise last; other lines begin a fresh book, look at a place or at the sums (support, held, net owed), `rebuild` the book,
+// or make a book that no message makes (`write` a place, `endow` with a support, `make` other totals).
 mod act;
 mod say;
 mod scripts;

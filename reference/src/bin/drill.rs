@@ -51,9 +51,11 @@ mod rows {
     const SUSPENSION: u64 = 716;
     const PLACES: u64 = 720;
     const EDGES: u64 = 728;
-    /// To 1,023: fields 0 to 127.
+    /// To 959: fields 0 to 95.
     const CHANGES: u64 = 768;
-    const FIELDS_BELOW: u64 = 128;
+    const FIELDS_BELOW: u64 = 96;
+    /// To 1,023.
+    const REBUILT: u64 = 960;
 
     pub const TEN_OVER_FIFTEEN: u64 = PAIRS;
     pub const TWELVE_OVER_THIRTEEN: u64 = PAIRS + 1;
@@ -69,6 +71,8 @@ mod rows {
     pub const LOOK_REFUSED: u64 = LOOKS + 1;
     pub const SUSPENSION_ON: u64 = SUSPENSION;
     pub const SUSPENSION_OFF: u64 = SUSPENSION + 1;
+    pub const SUSPENDED_AS_KEPT: u64 = SUSPENSION + 2;
+    pub const NOT_SUSPENDED_AS_KEPT: u64 = SUSPENSION + 3;
     pub const PLACE_USED_AGAIN: u64 = PLACES;
     pub const ALL_FREE: u64 = PLACES + 1;
     pub const ONE_FREE: u64 = PLACES + 2;
@@ -79,6 +83,12 @@ mod rows {
     pub const REVISE_ONE_CENT_ABOVE: u64 = EDGES + 3;
     pub const SUSPENDED_AT_TWICE_OWED: u64 = EDGES + 4;
     pub const OPEN_ONE_CENT_BELOW_TWICE: u64 = EDGES + 5;
+    pub const SOUND_GIVEN_BACK: u64 = REBUILT;
+    pub const SOUND_AGAIN_REFUSED: u64 = REBUILT + 1;
+    pub const SOUND_AGAIN_ACCEPTED: u64 = REBUILT + 2;
+    pub const SUPPORT_STILL_WRONG: u64 = REBUILT + 3;
+    pub const KEYS_STILL_WRONG: u64 = REBUILT + 4;
+    pub const PLACE_STILL_WRONG: u64 = REBUILT + 5;
 
     /// A message that was answered so; 0 is acceptance.
     pub fn answer(message: u64, number: u64) -> u64 {
@@ -135,8 +145,22 @@ impl Digest {
         self.mix_cents(answer.net_owed);
     }
 
-    fn mix_book(&mut self, book: &Book) {
+    /// What a book keeps beside its records.
+    fn mix_account(&mut self, book: &Book) {
         self.mix_cents(book.support);
+        self.mix_cents(book.held);
+        self.mix_cents(book.net_owed);
+    }
+
+    /// What a screen asks of a book.
+    fn mix_screen(&mut self, book: &Book) {
+        self.mix_cents(book.held());
+        self.mix_cents(book.net_owed());
+        self.mix(u64::from(book.is_suspended()));
+    }
+
+    fn mix_book(&mut self, book: &Book) {
+        self.mix_account(book);
         for record in &book.records {
             self.mix(record.key.kind);
             self.mix(record.key.path);
@@ -343,6 +367,14 @@ impl Ask {
     }
 }
 
+/// A turn's draws, its message, and the points beside it.
+struct Turn {
+    draws: Draws,
+    ask: Ask,
+    mwh: Vec<u64>,
+    prices: Vec<i64>,
+}
+
 /// The message that takes a record to its next stage; of a free place, open.
 fn onward(record: &Record) -> u64 {
     match record.stage {
@@ -496,7 +528,7 @@ impl Run {
         self.count(answer.number() == 0, rows::FRESH_ACCEPTED);
         self.count(answer.number() == 9, rows::FRESH_REFUSED);
         self.answered(&answer);
-        self.digest.mix_cents(book.support);
+        self.digest.mix_account(&book);
         self.book = book;
     }
 
@@ -542,30 +574,80 @@ impl Run {
         self.digest.mix(cents);
     }
 
-    /// The turn's message to a book set aside and changed.
-    fn probe(&mut self, draws: &Draws, ask: &Ask, mwh: &[u64], prices: &[i64]) {
-        let change = self.turn / 8 % CHANGES;
-        let mut aside = changed(&self.book, change, draws.day / 16);
+    /// The turn's message to a book set aside, and what a screen asks of it
+    /// before. Gives the answer's number, and whether the book was sound.
+    fn set_aside(&mut self, turn: &Turn, mut aside: Book) -> (u64, bool) {
         let sound = aside.is_sound();
-        let answer = aside.apply(ask.message(), mwh, prices);
-        let refused = answer.number() == 1;
-        self.count(sound != refused, rows::change(field_of(change), sound));
-        if refused {
-            self.count_answer(draws, ask.message, 1);
+        self.digest.mix_screen(&aside);
+        let answer = aside.apply(turn.ask.message(), &turn.mwh, &turn.prices);
+        let number = answer.number();
+        if number == 1 {
+            self.count_answer(&turn.draws, turn.ask.message, 1);
         }
         self.answered(&answer);
         self.digest.mix_book(&aside);
         self.digest.mix(u64::from(sound));
+        (number, sound)
+    }
+
+    /// The book with one of the changes that no message makes.
+    fn changed(&self, turn: &Turn, change: u64) -> Book {
+        changed(&self.book, change, turn.draws.day / 16)
+    }
+
+    fn probe_changed(&mut self, turn: &Turn) {
+        let change = self.turn / 8 % CHANGES;
+        let (number, sound) = self.set_aside(turn, self.changed(turn, change));
+        let row = rows::change(field_of(change), sound);
+        self.count(sound != (number == 1), row);
+    }
+
+    fn probe_tampered(&mut self, turn: &Turn) {
+        let how = self.turn / 16 % TAMPERINGS;
+        let aside = tampered(&self.book, how);
+        let (now, told) = (self.book.is_suspended(), aside.is_suspended());
+        self.count(told && !now, rows::SUSPENDED_AS_KEPT);
+        self.count(!told && now, rows::NOT_SUSPENDED_AS_KEPT);
+        let (number, sound) = self.set_aside(turn, aside);
+        let row = rows::change(FIELD_TOTALS + how, sound);
+        self.count(sound != (number == 1), row);
+    }
+
+    /// The same two, rebuilt from their support and records.
+    fn probe_rebuilt(&mut self, turn: &Turn) {
+        let which = self.turn / 32;
+        let (field, before) = if self.turn / 16 % 2 == 0 {
+            let how = which % TAMPERINGS;
+            (FIELD_TOTALS + how, tampered(&self.book, how))
+        } else {
+            let change = which % CHANGES;
+            (field_of(change), self.changed(turn, change))
+        };
+        let was_sound = before.is_sound();
+        let aside = Book::rebuilt(before.support, before.records);
+        let totals = (aside.held, aside.net_owed);
+        let as_before = totals == (before.held, before.net_owed);
+        let as_now = totals == (self.book.held, self.book.net_owed);
+        let (number, sound) = self.set_aside(turn, aside);
+        let row = match (sound, number) {
+            (true, 1) => return,
+            (true, _) if was_sound && as_before => rows::SOUND_GIVEN_BACK,
+            (true, 0) if !was_sound && as_now => rows::SOUND_AGAIN_ACCEPTED,
+            (true, _) if !was_sound && as_now => rows::SOUND_AGAIN_REFUSED,
+            (false, 1) if totals == (0, 0) && !as_before => rows::PLACE_STILL_WRONG,
+            (false, 1) if totals == (0, 0) || !as_before => return,
+            (false, 1) if field == FIELD_SUPPORT => rows::SUPPORT_STILL_WRONG,
+            (false, 1) => rows::KEYS_STILL_WRONG,
+            _ => return,
+        };
+        self.count(true, row);
     }
 
     /// All that the book holds, and what a screen asks of it.
     fn show(&mut self) {
-        let book = &self.book;
-        self.digest.mix_book(book);
-        self.digest.mix_cents(i64::try_from(book.held()).expect("a sound book's held fits"));
-        self.digest.mix_cents(i64::try_from(book.net_owed()).expect("a sound book's net owed fits"));
-        self.digest.mix(u64::from(book.is_suspended()));
-        self.digest.mix(u64::from(book.is_sound()));
+        self.digest.mix_book(&self.book);
+        self.digest.mix_screen(&self.book);
+        self.digest.mix(u64::from(self.book.is_sound()));
     }
 
     /// The rows of a message's answer, and of a later fault under it.
@@ -630,7 +712,8 @@ impl Run {
         self.most_open = self.most_open.max(self.open);
     }
 
-    fn turn(&mut self, window: &std::ops::Range<u64>, out: &mut String) {
+    /// What a turn draws, before its message is sent.
+    fn drawn(&self) -> (Turn, Record, bool) {
         let draws = Draws::of(self.seed);
         let (mwh, prices) = (mwh_points(&draws), price_points(&draws));
         let record = self.book.records[self.place_of(&draws)];
@@ -641,13 +724,37 @@ impl Run {
             ask.message = SUPPORT;
             ask.cents = near(held.unsigned_abs(), draws.tight / 64);
         }
-        self.import_test(&draws);
-        self.look_up(&draws);
-        if self.turn % 8 == 7 {
-            self.probe(&draws, &ask, &mwh, &prices);
-        } else if self.turn % 64 == 0 {
-            self.show();
+        let turn = Turn {
+            draws,
+            ask,
+            mwh,
+            prices,
+        };
+        (turn, record, tight)
+    }
+
+    /// What is asked beside the turn's message.
+    fn beside(&mut self, turn: &Turn) {
+        self.import_test(&turn.draws);
+        self.look_up(&turn.draws);
+        match self.turn % 16 {
+            7 | 15 => self.probe_changed(turn),
+            3 => self.probe_tampered(turn),
+            11 => self.probe_rebuilt(turn),
+            _ if self.turn % 64 == 0 => self.show(),
+            _ => {}
         }
+    }
+
+    fn turn(&mut self, window: &std::ops::Range<u64>, out: &mut String) {
+        let (turn, record, tight) = self.drawn();
+        self.beside(&turn);
+        let Turn {
+            draws,
+            ask,
+            mwh,
+            prices,
+        } = turn;
         let mut next = self.book.clone();
         let answer = next.apply(ask.message(), &mwh, &prices);
         let above = draws.key_is_from_place(ask.message) && record.bid_mwh < ask.quantity;
@@ -898,6 +1005,31 @@ fn base_record(change: u64) -> Record {
     }
 }
 
+/// A requirement as the kept totals count it; one of the machine's ends, with
+/// which a sum may not fit, is left out.
+fn counted(record: &Record) -> i64 {
+    if record.requirement.unsigned_abs() <= 2 * TRILLION.unsigned_abs() {
+        record.requirement
+    } else {
+        0
+    }
+}
+
+fn counted_as_owed(record: &Record) -> i64 {
+    if record.stage == 4 {
+        counted(record)
+    } else {
+        0
+    }
+}
+
+/// Sets a place, and the kept totals with it.
+fn put(book: &mut Book, place: usize, record: Record) {
+    let old = std::mem::replace(&mut book.records[place], record);
+    book.held += counted(&record) - counted(&old);
+    book.net_owed += counted_as_owed(&record) - counted_as_owed(&old);
+}
+
 fn changed(book: &Book, change: u64, w: u64) -> Book {
     let mut next = book.clone();
     let place = (w % PLACES as u64) as usize;
@@ -922,10 +1054,41 @@ fn changed(book: &Book, change: u64, w: u64) -> Book {
         9 | 10 => record.requirement = cents,
         _ => {}
     }
-    next.records[place] = record;
+    put(&mut next, place, record);
     if field == FIELD_TWICE {
-        next.records[PLACES - 1 - place] = record;
+        put(&mut next, PLACES - 1 - place, record);
     }
+    next
+}
+
+/// The ways to tamper with the kept totals, each a field of its own.
+const TAMPERINGS: u64 = 16;
+const FIELD_TOTALS: u64 = 13;
+
+fn tampered(book: &Book, how: u64) -> Book {
+    let mut next = book.clone();
+    let half = book.support / 2;
+    let (held, owed) = (book.held, book.net_owed);
+    let (held, owed) = match how {
+        0 => (held, owed),
+        1 => (held + 1, owed),
+        2 => (held - 1, owed),
+        3 => (held, owed + 1),
+        4 => (held, owed - 1),
+        5 => (owed, held),
+        6 => (held + 1, owed + 1),
+        7 => (held + 1, owed - 1),
+        8 => (held - 1, owed + 1),
+        9 => (0, 0),
+        10 => (i64::MAX, owed),
+        11 => (i64::MIN, owed),
+        12 => (held, i64::MAX),
+        13 => (held, i64::MIN),
+        14 => (held, half),
+        _ => (held, half + 1),
+    };
+    next.held = held;
+    next.net_owed = owed;
     next
 }
 

@@ -1,8 +1,11 @@
 //! The run of `crates/pace` over the reference: the same messages to a book
 //! with as many open records, and the same line.
 //!
-//! Standard input has two numbers: how many groups to open, 0 to 256, and how
-//! many messages to send then.
+//! The last two numbers on standard input: how many groups to open, 0 to 256,
+//! and how many messages to send then. Two may stand before them: the hours
+//! and the paths between the keys of two groups; without them, or both 0, the
+//! keys are spread. And first of all may stand how often a screen asks for the
+//! totals before the messages.
 
 use std::io::Read;
 
@@ -14,80 +17,104 @@ const PLACES: u64 = 256;
 const MODULUS: u64 = 2_147_483_647;
 const MULTIPLIER: u64 = 48_271;
 
-/// The kinds in turn; an hour is given once.
-fn key(group: u64) -> Key {
-    Key {
-        kind: group % 4 + 1,
-        path: group % 7 * 100 + 7,
-        hour: group % PLACES + 4_000,
+/// The groups that are open, and how many hours and paths lie between the keys
+/// of two of them; none of both where the keys are spread.
+struct Groups {
+    hours: u64,
+    paths: u64,
+    open: u64,
+}
+
+impl Groups {
+    /// Spread: the kinds in turn; an hour is given once. Else all are of
+    /// kind 1.
+    fn key(&self, group: u64) -> Key {
+        if (self.hours, self.paths) == (0, 0) {
+            return Key {
+                kind: group % 4 + 1,
+                path: group % 7 * 100 + 7,
+                hour: group + 4_000,
+            };
+        }
+        Key {
+            kind: 1,
+            path: group * (self.paths % 1_000_000) % 999 + 1,
+            hour: group * (self.hours % 1_000_000) % 1_000_000,
+        }
+    }
+
+    fn opening(&self, group: u64, turn: u64) -> Message {
+        let key = self.key(group);
+        Message::Open(Opening {
+            differential: differential(&key, turn),
+            key,
+            exempt: false,
+        })
+    }
+
+    fn revision(&self, group: u64, turn: u64) -> Message {
+        let key = self.key(group);
+        Message::Revise(Revision {
+            differential: differential(&key, turn),
+            key,
+            exempt: false,
+        })
+    }
+
+    /// An empty book has support 0, so that none is opened there.
+    fn support(&self, turn: u64) -> i64 {
+        if self.open == 0 {
+            0
+        } else {
+            varied(turn, 999_999_999_000_000)
+        }
+    }
+
+    /// Each group in turn goes through its life, and is open again at its end.
+    fn message(&self, turn: u64) -> Message {
+        let group = if self.open == 0 {
+            0
+        } else {
+            turn / 8 % self.open
+        };
+        let key = self.key(group);
+        let price = varied(turn, 4_000);
+        match turn % 8 {
+            0 | 6 => self.revision(group, turn),
+            1 => Message::Post(Posting {
+                key,
+                schedule: 50,
+                first_price: price,
+                second_price: 0,
+            }),
+            2 => Message::Finish(Finish {
+                key,
+                actual: 40,
+                first_price: price,
+                second_price: 0,
+            }),
+            3 => Message::Bill(Bill { key, amount: price }),
+            4 => Message::Pay(Payment { key }),
+            5 => self.opening(group, turn),
+            _ => Message::Support(Support {
+                amount: self.support(turn),
+            }),
+        }
     }
 }
 
 /// Kinds 3 and 4 have no differential.
-fn differential(group: u64, turn: u64) -> u64 {
-    if group % 4 < 2 {
+fn differential(key: &Key, turn: u64) -> u64 {
+    if key.kind < 3 {
         turn % 1_000 + 1_000
     } else {
         0
     }
 }
 
-fn opening(group: u64, turn: u64) -> Message {
-    Message::Open(Opening {
-        key: key(group),
-        differential: differential(group, turn),
-        exempt: false,
-    })
-}
-
-fn revision(group: u64, turn: u64) -> Message {
-    Message::Revise(Revision {
-        key: key(group),
-        differential: differential(group, turn),
-        exempt: false,
-    })
-}
-
 /// A number from `least` on, which changes with the turn.
 fn varied(turn: u64, least: i64) -> i64 {
     least + (turn % 1_000) as i64
-}
-
-/// An empty book has support 0, so that none is opened there.
-fn support(open: u64, turn: u64) -> i64 {
-    if open == 0 {
-        0
-    } else {
-        varied(turn, 999_999_999_000_000)
-    }
-}
-
-/// Each group in turn goes through its life, and is open again at its end.
-fn message(open: u64, turn: u64) -> Message {
-    let group = if open == 0 { 0 } else { turn / 8 % open };
-    let key = key(group);
-    let price = varied(turn, 4_000);
-    match turn % 8 {
-        0 | 6 => revision(group, turn),
-        1 => Message::Post(Posting {
-            key,
-            schedule: 50,
-            first_price: price,
-            second_price: 0,
-        }),
-        2 => Message::Finish(Finish {
-            key,
-            actual: 40,
-            first_price: price,
-            second_price: 0,
-        }),
-        3 => Message::Bill(Bill { key, amount: price }),
-        4 => Message::Pay(Payment { key }),
-        5 => opening(group, turn),
-        _ => Message::Support(Support {
-            amount: support(open, turn),
-        }),
-    }
 }
 
 fn send(book: &mut Book, message: Message, turn: u64) -> Answer {
@@ -112,6 +139,15 @@ fn mix_answer(digest: u64, answer: &Answer) -> u64 {
     )
 }
 
+/// What a screen reads: held, net owed, and whether the book is suspended.
+fn mix_shown(digest: u64, book: &Book) -> u64 {
+    let totals = mix(
+        mix(digest, book.held().unsigned_abs()),
+        book.net_owed().unsigned_abs(),
+    );
+    mix(totals, book.is_suspended() as u64)
+}
+
 fn numbers() -> Vec<u64> {
     let mut text = String::new();
     std::io::stdin()
@@ -123,15 +159,22 @@ fn numbers() -> Vec<u64> {
 }
 
 fn main() {
-    let numbers = numbers();
-    let (open, messages) = (numbers[0].min(PLACES), numbers[1]);
-    let (mut book, _) = Book::fresh(support(open, 0));
+    let mut numbers = numbers();
+    let messages = numbers.pop().expect("a count of messages");
+    let open = numbers.pop().expect("a count of groups").min(PLACES);
+    let mut step = || numbers.pop().unwrap_or(0);
+    let (paths, hours, questions) = (step(), step(), step());
+    let groups = Groups { hours, paths, open };
+    let (mut book, _) = Book::fresh(groups.support(0));
     for group in 0..open {
-        send(&mut book, opening(group, group), group);
+        send(&mut book, groups.opening(group, group), group);
     }
     let mut digest = 0;
+    for _ in 0..questions {
+        digest = mix_shown(digest, &book);
+    }
     for turn in 0..messages {
-        digest = mix_answer(digest, &send(&mut book, message(open, turn), turn));
+        digest = mix_answer(digest, &send(&mut book, groups.message(turn), turn));
     }
     println!("open {open} messages {messages} digest {digest}");
 }

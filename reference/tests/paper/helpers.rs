@@ -176,10 +176,14 @@ pub fn turn_away(book: &mut Book, message: Message, mwh: &[u64], prices: &[i64])
 
 /// The sum of the requirements of the chosen records.
 pub fn sum(book: &Book, chosen: impl Fn(&Record) -> bool) -> i64 {
+    exact_sum(book, chosen).try_into().expect("a sum that fits")
+}
+
+fn exact_sum(book: &Book, chosen: impl Fn(&Record) -> bool) -> i128 {
     book.records
         .iter()
         .filter(|record| chosen(record))
-        .map(|record| record.requirement)
+        .map(|record| i128::from(record.requirement))
         .sum()
 }
 
@@ -217,5 +221,14 @@ pub fn staged(kind: u64, stage: u64) -> Record {
 pub fn with(record: Record) -> Book {
     let mut book = wide();
     book.records[0] = record;
+    total(&mut book);
     book
+}
+
+/// Makes the kept totals those of the records, in range or not; a sum that
+/// does not fit is brought to the nearest that does.
+pub fn total(book: &mut Book) {
+    let fitted = |sum: i128| sum.clamp(i64::MIN.into(), i64::MAX.into()) as i64;
+    book.held = fitted(exact_sum(book, |_| true));
+    book.net_owed = fitted(exact_sum(book, |record| record.stage == 4));
 }

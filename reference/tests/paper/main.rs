@@ -1,8 +1,10 @@
-//! Document 01, sentence by sentence, through the public book.
+//! Document 01, sentence by sentence, through the public book; in `kept`
+//! order 1 of document 02.
 
 mod edges;
 mod extremes;
 mod helpers;
+mod kept;
 mod order;
 mod readings;
 mod refusals;

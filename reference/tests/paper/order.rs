@@ -19,6 +19,7 @@ fn worst_book() -> Book {
     book.records[0].stage = 4;
     book.records[0].requirement = 100;
     book.support = -1;
+    total(&mut book);
     book
 }
 
@@ -120,10 +121,12 @@ const TO_STAGE_4: Step = (12, |book, _| book.records[1].stage = 4);
 fn peel(message: fn(&Draft) -> Message, stage: u64, steps: &[Step]) {
     let (mut book, mut draft) = (worst_book(), Draft::worst());
     book.records[1].stage = stage;
+    total(&mut book);
     for &(number, mend) in steps {
         let refusal = turn_away(&mut book, message(&draft), &draft.mwh, &draft.prices);
         assert_eq!(refusal.number(), number);
         mend(&mut book, &mut draft);
+        total(&mut book);
     }
     take(&mut book, message(&draft), &draft.mwh, &draft.prices);
 }

@@ -14,8 +14,8 @@ fn each_finished_import_has_its_own_floor() {
     // Balancing 0 less 200,000, and balancing 240,000 less 200,000.
     assert_eq!(send(&mut book, finish(gain, 50, 6000, 0)), 0);
     assert_eq!(send(&mut book, finish(loss, 10, 6000, 0)), 40_000);
-    let without_floors: [i128; 2] = [-200_000, 40_000];
-    let one_floor_under_the_sum = without_floors.iter().sum::<i128>().max(0);
+    let without_floors: [i64; 2] = [-200_000, 40_000];
+    let one_floor_under_the_sum = without_floors.iter().sum::<i64>().max(0);
     assert_ne!(book.held(), one_floor_under_the_sum);
     assert_eq!(book.held(), 40_000);
 }

@@ -98,6 +98,7 @@ fn keys_are_distinct() {
         let mut book = wide();
         book.records[places.0] = full(IMPORT, 1);
         book.records[places.1] = full(IMPORT, 3);
+        total(&mut book);
         assert_unsound(book.clone());
         book.records[places.1].key.hour += 1;
         assert!(book.is_sound());
@@ -124,6 +125,7 @@ fn free_places_are_zero() {
         for place in [0, 128, 255] {
             let mut book = wide();
             change(&mut book.records[place]);
+            total(&mut book);
             assert_unsound(book);
         }
     }
@@ -134,6 +136,7 @@ fn free_places_may_lie_between_records() {
     let mut book = wide();
     book.records[3] = full(IMPORT, 2);
     book.records[255] = full(WHEEL, 4);
+    total(&mut book);
     assert!(book.is_sound());
 }
 
@@ -294,6 +297,7 @@ fn a_broken_place_anywhere_is_found() {
     for place in 0..256 {
         let mut book = wide();
         book.records[place] = full(IMPORT, 1);
+        total(&mut book);
         assert!(book.is_sound());
         book.records[place].bid_mwh = 10_001;
         assert!(!book.is_sound());

@@ -87,7 +87,7 @@ fn check_step(before: &Book, message: Message, after: &Book, number: u64) {
         }
     }
     if let Message::Open(_) = message {
-        assert!(after.held() <= i128::from(after.support));
+        assert!(after.held() <= after.support);
         assert!(!before.is_suspended());
     }
 }
@@ -106,6 +106,11 @@ fn every_step_keeps_the_book_sound() {
             check_step(&before, message, &book, answer.number());
             assert_eq!(answer.held, sum(&book, |_| true));
             assert_eq!(answer.net_owed, sum(&book, |record| record.stage == 4));
+            assert_eq!(
+                (book.held(), book.net_owed()),
+                (answer.held, answer.net_owed)
+            );
+            assert_eq!(Book::rebuilt(book.support, book.records), book);
             met[answer.number() as usize] += 1;
         }
     }

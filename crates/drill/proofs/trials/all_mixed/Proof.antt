@@ -10,8 +10,8 @@ Inv-loop digest book next₀ i₀ next i = i ≤ 256
 abbrev μ-loop : tie.MeasureT-loop
 μ-loop digest book next₀ i₀ next i = 256 - i
 
-mix-cents-requires : tie.Need-mix-cents-requires Inv-loop μ-loop
-mix-cents-requires c κs = tt
+account-mixed-requires : tie.Need-account-mixed-requires Inv-loop μ-loop
+account-mixed-requires c κs = tt
 
 loop-holds : tie.Need-loop-holds Inv-loop μ-loop
 loop-holds c = search needs
@@ -43,7 +43,7 @@ all-mixed-spec =
     (tie.spec
     Inv-loop
     μ-loop
-    mix-cents-requires
+    account-mixed-requires
     loop-holds
     mul-r
     element-copy-out-r
