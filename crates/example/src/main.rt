@@ -31,8 +31,8 @@ fn main() {
         Answer::Refused { number, .. } => say::refusal(number),
     }
 
-    // The next message goes to the book that came back, and so does what a screen asks.
-    let book = opened.book;
-    say::cents(b"held", book.held());
-    say::cents(b"net owed", book.net_owed());
+    // What a screen asks stands beside the places: it reads the account, 24 bytes, and does not hand over the book. The next message goes to `opened.book`.
+    let account = opened.book.account;
+    say::cents(b"held", account.held);
+    say::cents(b"net owed", account.owed);
 }

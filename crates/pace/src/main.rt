@@ -1,44 +1,67 @@
-// How long a message takes on a book with so many open records. Standard input has two numbers: how many groups to open, 0 to 256, and how many messages
-// to send then. `bench/speed` times it beside the reference, whose `pace` sends the same messages and prints the same line.
+// How long a message takes on a book with so many open records. The last two numbers on standard input: how many groups to open, 0 to 256, and how many messages
+// to send then. Two may stand before them: the hours and the paths between the keys of two groups; without them, or both 0, the keys are spread. And first of all
+// may stand how often a screen asks for the totals before the messages.
+// `bench/speed` times it beside the reference, whose `pace` sends the same messages and prints the same line.
 mod desk;
 
+use book::Account;
 use book::Answer;
 use book::Book;
 use book::Message;
 use book::Outcome;
+use desk::Groups;
 use libc::STDIN_FILENO;
 use libc::STDOUT_FILENO;
 
 const MODULUS: u64 = 2_147_483_647;
 
 struct Plan {
+    questions: u64,
+    hours: u64,
+    paths: u64,
     open: u64,
     messages: u64,
 }
 
 impl Plan {
-    // A digit is one more of the second number; a space ends the first.
+    // A digit is one more of the last number; after a space each number stands one further forward.
     fn fed(self, byte: u8) -> Plan {
         if byte == b' ' {
-            let open = if 256 < self.messages {
-                256
-            } else {
-                self.messages
+            return Plan {
+                questions: self.hours,
+                hours: self.paths,
+                paths: self.open,
+                open: self.messages,
+                messages: 0,
             };
-            return Plan { open, messages: 0 };
         }
         if (byte < b'0') | (b'9' < byte) {
             return self;
         }
         Plan {
+            questions: self.questions,
+            hours: self.hours,
+            paths: self.paths,
             open: self.open,
             messages: self.messages % 100_000_000_000 * 10 + byte as u64 % 16,
+        }
+    }
+
+    fn groups(self) -> Groups {
+        let open = if 256 < self.open { 256 } else { self.open };
+        Groups {
+            hours: self.hours,
+            paths: self.paths,
+            open,
         }
     }
 }
 
 fn read(input: &[u8; 32]) -> Plan {
     let mut plan = Plan {
+        questions: 0,
+        hours: 0,
+        paths: 0,
         open: 0,
         messages: 0,
     };
@@ -67,29 +90,48 @@ fn mixed(digest: u64, answer: Answer) -> u64 {
 }
 
 // The outcome is kept whole from one message to the next, so that a book is not copied here.
-fn filled(open: u64) -> Outcome {
-    let mut last = Book::fresh(desk::support(open, 0));
+fn filled(groups: Groups) -> Outcome {
+    let mut last = Book::fresh(groups.support(0));
     let mut group: u64 = 0;
-    while group < open {
+    while group < groups.open {
         let mwh = desk::mwh(group);
         let prices = desk::prices(group);
         last = last.book
-            .apply(Message::Open(desk::opening(group, group)), &mwh, &prices);
+            .apply(Message::Open(groups.opening(group, group)), &mwh, &prices);
         group += 1;
     }
     last
 }
 
-// The digest of all answers to the messages.
-fn run(start: Outcome, plan: Plan) -> u64 {
-    let mut last = start;
+// What a screen reads: held, net owed, and whether the book is suspended. They stand beside the places, so the book is not handed over.
+fn shown(digest: u64, account: Account) -> u64 {
+    let totals = mix(
+        mix(digest, amounts::magnitude(account.held)),
+        amounts::magnitude(account.owed),
+    );
+    mix(totals, if account.suspended() { 1 } else { 0 })
+}
+
+// The digest of what a screen is shown, so many times.
+fn asked(account: Account, questions: u64) -> u64 {
     let mut digest: u64 = 0;
+    let mut question: u64 = 0;
+    while question < questions {
+        digest = shown(digest, account);
+        question += 1;
+    }
+    digest
+}
+
+// The digest of all answers to the messages, after what was asked.
+fn run(start: Outcome, groups: Groups, messages: u64, before: u64) -> u64 {
+    let mut last = start;
+    let mut digest = before;
     let mut turn: u64 = 0;
-    while turn < plan.messages {
+    while turn < messages {
         let mwh = desk::mwh(turn);
         let prices = desk::prices(turn);
-        last = last.book
-            .apply(desk::message(plan.open, turn), &mwh, &prices);
+        last = last.book.apply(groups.message(turn), &mwh, &prices);
         let answer = last.answer;
         digest = mixed(digest, answer);
         turn += 1;
@@ -106,8 +148,11 @@ fn main() {
     let mut input = [0u8; 32];
     io::read_full(STDIN_FILENO, &mut input);
     let plan = read(&input);
-    number(b"open ", plan.open);
+    let groups = plan.groups();
+    number(b"open ", groups.open);
     number(b" messages ", plan.messages);
-    number(b" digest ", run(filled(plan.open), plan));
+    let full = filled(groups);
+    let digest = asked(full.book.account, plan.questions);
+    number(b" digest ", run(full, groups, plan.messages, digest));
     io::write_all(STDOUT_FILENO, b"\n");
 }

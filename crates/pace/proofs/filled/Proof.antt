@@ -6,10 +6,10 @@ use Rattle.pace.proofs.filled.Statement.{statement}
 use Rattle.pace.proofs.filled.Tie as tie
 
 abbrev Inv-loop : tie.InvT-loop
-Inv-loop «open» last₀ group₀ last group = Unit {0}
+Inv-loop groups last₀ group₀ last group = Unit {0}
 
 abbrev μ-loop : tie.MeasureT-loop
-μ-loop «open» last₀ group₀ last group = «open» - group
+μ-loop groups last₀ group₀ last group = groups .«open» - group
 
 support-requires : tie.Need-support-requires Inv-loop μ-loop
 support-requires c κs = search needs

@@ -6,10 +6,10 @@ use Rattle.pace.proofs.run.Statement.{statement}
 use Rattle.pace.proofs.run.Tie as tie
 
 abbrev Inv-loop : tie.InvT-loop
-Inv-loop plan last₀ digest₀ turn₀ last digest turn = Unit {0}
+Inv-loop groups messages before last₀ digest₀ turn₀ last digest turn = Unit {0}
 
 abbrev μ-loop : tie.MeasureT-loop
-μ-loop plan last₀ digest₀ turn₀ last digest turn = plan .messages - turn
+μ-loop groups messages before last₀ digest₀ turn₀ last digest turn = messages - turn
 
 loop-holds : tie.Need-loop-holds Inv-loop μ-loop
 loop-holds c = tt
