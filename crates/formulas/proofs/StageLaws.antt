@@ -49,7 +49,8 @@ balancing-range s a p hs ha hp =
 pub import-finished-range : (s : ℕ) (dayAhead : ℤ) (a : ℕ) (p : ℤ) → isQuantity s ≡ true → isPrice dayAhead ≡ true → isQuantity a ≡ true → isPrice p ≡ true → Range 0 1280000000000 (importFinished s dayAhead a p)
 unfolding importFinished
 import-finished-range s dayAhead a p hs hd ha hp =
-    range-max (range-sub (balancing-range s a p hs ha hp) (range-times (leb-true s 640000 hs) (priced dayAhead hd))) nothing
+    let gap : Range 640000 640000 (pos s -ℤ pos a) = range-sub (counted 640000 s (leb-true s 640000 hs)) (counted 640000 a (leb-true a 640000 ha)) in
+    range-max (range-sub (range-mul gap (priced p hp)) (range-times (leb-true s 640000 hs) (priced dayAhead hd))) nothing
 
 pub export-posted-range : (s : ℕ) (p : ℤ) (d : ℕ) → isQuantity s ≡ true → isPrice p ≡ true → isDifferential d ≡ true → Range 0 640000000000 (exportPosted s p d)
 unfolding exportPosted

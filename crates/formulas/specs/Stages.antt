@@ -13,13 +13,13 @@ use Rattle.kinds.specs.Kinds.{unlessExempt, byKind}
 unfoldable pub importPosted : ℕ → ℕ → ℤ
 importPosted schedule differential = pos (schedule * differential)
 
--- 'Max((schedule - actual) x real-time price, 0)'; an export's second half has the two quantities changed about
+-- 'Max((schedule - actual) x real-time price, 0)' of a finished export; its second half has the two quantities changed about
 unfoldable pub balancing : ℕ → ℕ → ℤ → ℤ
 balancing schedule actual realTime = Max ((pos schedule -ℤ pos actual) *ℤ realTime) (pos 0)
 
--- 'Finished: Max(balancing - schedule x Day-Ahead price, 0)' (000, slide 'External Suppliers - Operating Requirements')
+-- 02, order 2: '(schedule - actual) x real-time price, and only the difference with the Day-Ahead payment is held at zero' (001, 26.4.2.2.1 (3); 000 has a floor under the balancing payment too)
 unfoldable pub importFinished : ℕ → ℤ → ℕ → ℤ → ℤ
-importFinished schedule dayAhead actual realTime = Max (balancing schedule actual realTime -ℤ pos schedule *ℤ dayAhead) (pos 0)
+importFinished schedule dayAhead actual realTime = Max ((pos schedule -ℤ pos actual) *ℤ realTime -ℤ pos schedule *ℤ dayAhead) (pos 0)
 
 -- ---- Export (000, 'External Buyers'; 001, 26.4.2.2.2)
 

@@ -46,7 +46,7 @@ examples =
     ∷ W 11 (finished wheel 50 40 (pos 0) (pos 1000) (pos 500) (pos 20000)) 15000
     ∷ W 12 (finished wheel 50 70 (pos 0) (pos 1000) (pos 500) (pos 20000)) 30000
     ∷ W 13 (bid wheel (50 ∷ []) (pos 200 ∷ []) 0) 0
-    ∷ W 14 (finished import 50 60 (negℤ (pos 4000)) (pos 6000) (pos 0) (pos 0)) 200000
+    ∷ W 14 (finished import 50 60 (negℤ (pos 4000)) (pos 6000) (pos 0) (pos 0)) 140000
     ∷ []
 
 -- ---- what the library answers

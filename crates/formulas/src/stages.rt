@@ -26,7 +26,7 @@ fn import_posted(schedule: u64, differential: u64) -> i64
     (schedule * differential) as i64
 }
 
-// Also what an export adds above its schedule, with the two quantities changed about.
+// What an export is short of its schedule, at the real-time price; what it adds above it, with the two quantities changed about.
 fn balance(schedule: u64, actual: u64, real_time: i64) -> i64
     requires { ⌜ isQuantity schedule ≡ true ⌝ }
     requires { ⌜ isQuantity actual ≡ true ⌝ }
@@ -43,7 +43,8 @@ fn import_finished(schedule: u64, day_ahead: i64, actual: u64, real_time: i64) -
     requires { ⌜ isPrice «real_time» ≡ true ⌝ }
     ensures { λ r. ⌜ r ≡ importFinished schedule «day_ahead» actual «real_time» ⌝ }
 {
-    amounts::floored(balance(schedule, actual, real_time) - schedule as i64 * day_ahead)
+    let balancing = (schedule as i64 - actual as i64) * real_time;
+    amounts::floored(balancing - schedule as i64 * day_ahead)
 }
 
 // ---- export

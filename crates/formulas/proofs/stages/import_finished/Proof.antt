@@ -1,37 +1,43 @@
--- `formulas::stages::import_finished`: the balancing amount less the Day-Ahead sale, floored; both are in range, so each step fits.
-use mathlib.Core.Path.{ap, _∙_}
-use mir.Facts.{toZ-ofZ}
-use lib.IntN.{pos, _*ℤ_}
+-- `formulas::stages::import_finished`: the balancing payment less the Day-Ahead sale, floored once; each step fits.
+use lib.IntN.{pos, _-ℤ_, _*ℤ_}
 use mir.Syntax.{w64}
 use mir.Val.{toZ, ofZ}
-use Rattle.amounts.proofs.Steps.{Known, fits, kept, got, known, lit0, _minus_, _times_, _larger_}
-use Rattle.formulas.specs.Stages.{balancing, importFinished}
-use Rattle.formulas.proofs.Given.{mwh, mwh-cast, price, handed-price}
-use Rattle.formulas.proofs.StageLaws.{balancing-range}
+use Rattle.amounts.proofs.Steps.{Known, fits, kept, got, lit0, _minus_, _times_, _larger_}
+use Rattle.formulas.specs.Stages.{importFinished}
+use Rattle.formulas.proofs.Given.{mwh, mwh-cast, price}
 use Rattle.formulas.proofs.stages.import_finished.Statement.{statement}
 use Rattle.formulas.proofs.stages.import_finished.Tie as tie
 
-balance-requires : tie.Need-balance-requires
-balance-requires c κs = (search, (search, search handed-price))
+-- what was scheduled and not brought
+gap : (s : tie.Start) → Known (toZ w64 (s .args .schedule) -ℤ toZ w64 (s .args .actual)) (pos (s .args .schedule) -ℤ pos (s .args .actual)) 640000 640000
+gap s = mwh (s .args .schedule) (s .pre .0) minus mwh (s .args .actual) (s .pre .1 .1 .0)
+
+balancing : (s : tie.Start) → Known (toZ w64 (ofZ w64 (toZ w64 (s .args .schedule) -ℤ toZ w64 (s .args .actual))) *ℤ toZ w64 (ofZ w64 (s .args .real-time))) ((pos (s .args .schedule) -ℤ pos (s .args .actual)) *ℤ s .args .real-time) 640000000000 640000000000
+balancing s = kept (gap s) tt times price (s .fits .real-time) (s .pre .1 .1 .1)
 
 sale : (s : tie.Start) → Known (toZ w64 (s .args .schedule) *ℤ toZ w64 (ofZ w64 (s .args .day-ahead))) (pos (s .args .schedule) *ℤ s .args .day-ahead) 640000000000 640000000000
 sale s = mwh (s .args .schedule) (s .pre .0) times price (s .fits .day-ahead) (s .pre .1 .0)
 
-balanced : (c : tie.After-balance) → Known (c .balance .result) (balancing (c .before .args .schedule) (c .before .args .actual) (c .before .args .real-time)) 0 640000000000
-balanced c =
-    let s = c .before in
-    let a = s .args in
-    known (c .balance .ensures ∙ ap (balancing (a .schedule) (a .actual)) (toZ-ofZ (s .fits .real-time)))
-    (balancing-range (a .schedule) (a .actual) (a .real-time) (s .pre .0) (s .pre .1 .1 .0) (s .pre .1 .1 .1))
+cast-balancing : tie.Need-cast-balancing
+cast-balancing c = mwh-cast (c .args .schedule) (c .pre .0)
+
+cast-balancing-2 : tie.Need-cast-balancing-2
+cast-balancing-2 c = mwh-cast (c .args .actual) (c .pre .1 .1 .0)
+
+sub-balancing : tie.Need-sub-balancing
+sub-balancing c = fits (gap c) tt
+
+mul-balancing : tie.Need-mul-balancing
+mul-balancing c = fits (balancing c) tt
 
 cast-floored : tie.Need-cast-floored
-cast-floored c = mwh-cast (c .before .args .schedule) (c .before .pre .0)
+cast-floored c = mwh-cast (c .args .schedule) (c .pre .0)
 
 mul-floored : tie.Need-mul-floored
-mul-floored c = fits (sale (c .before)) tt
+mul-floored c = fits (sale c) tt
 
 sub-floored : tie.Need-sub-floored
-sub-floored c = fits (kept (balanced c) tt minus kept (sale (c .before)) tt) tt
+sub-floored c = fits (kept (balancing c) tt minus kept (sale c) tt) tt
 
 floored-requires : tie.Need-floored-requires
 floored-requires c κs = tt
@@ -39,10 +45,19 @@ floored-requires c κs = tt
 returns : tie.Need-returns
 unfolding importFinished
 returns c =
-    let owed = kept (balanced (c .before)) tt minus kept (sale (c .before .before)) tt in
+    let owed = kept (balancing (c .before)) tt minus kept (sale (c .before)) tt in
     kept (got (c .floored .ensures) (kept owed tt larger lit0)) tt .is
 
 pub import-finished-spec : {M : Type 1} → statement M
 import-finished-spec =
     tie.close
-    (tie.spec balance-requires cast-floored mul-floored sub-floored floored-requires returns)
+    (tie.spec
+    cast-balancing
+    cast-balancing-2
+    sub-balancing
+    mul-balancing
+    cast-floored
+    mul-floored
+    sub-floored
+    floored-requires
+    returns)
