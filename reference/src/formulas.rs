@@ -33,8 +33,14 @@ pub fn import_posted(schedule: i128, differential: i128, exempt: bool) -> i128 {
     unless_exempt(exempt, schedule * differential)
 }
 
-/// Import, finished: "Max(balancing - schedule x Day-Ahead price, 0), where
-/// balancing is Max((schedule - actual) x real-time price, 0)"; 0 when exempt.
+/// Import, finished, as filed (02, order 2; 001, section 26.4.2.2.1 (3)): "no
+/// floor in the balancing payment: it is (schedule - actual) x real-time
+/// price, and only the difference with the Day-Ahead payment is held at
+/// zero"; 0 when exempt.
+///
+/// The older paper 000, and 01 after it, had "Max((schedule - actual) x
+/// real-time price, 0)" for the balancing payment. The two differ where both
+/// payments are below 0.
 pub fn import_finished(
     schedule: i128,
     actual: i128,
@@ -42,8 +48,9 @@ pub fn import_finished(
     real_time_price: i128,
     exempt: bool,
 ) -> i128 {
-    let balancing = max((schedule - actual) * real_time_price, 0);
-    unless_exempt(exempt, max(balancing - schedule * day_ahead_price, 0))
+    let balancing_payment = (schedule - actual) * real_time_price;
+    let day_ahead_payment = schedule * day_ahead_price;
+    unless_exempt(exempt, max(balancing_payment - day_ahead_payment, 0))
 }
 
 /// "An exempt import has 0 at these three stages."
@@ -149,7 +156,7 @@ mod tests {
         assert_eq!(import_bid(bid_mwh, 6000, false), 600_000); // W1
         assert_eq!(import_posted(50, 6000, false), 300_000); // W2
         assert_eq!(import_finished(50, 10, 4000, 6000, false), 40_000); // W3
-        assert_eq!(import_finished(50, 60, -4000, 6000, false), 200_000); // W14
+        assert_eq!(import_finished(50, 60, -4000, 6000, false), 140_000); // W14, 02, order 2
     }
 
     #[test]
@@ -175,15 +182,26 @@ mod tests {
         assert_eq!(import_bid(100, 6000, true), 0);
         assert_eq!(import_posted(50, 6000, true), 0);
         assert_eq!(import_finished(50, 10, 4000, 6000, true), 0);
+        assert_eq!(import_finished(50, 60, -4000, 6000, true), 0);
     }
 
     #[test]
-    fn import_balancing_has_its_own_floor() {
-        // Without it (50 - 60) x 6000 would take 60,000 from 200,000.
-        assert_eq!(import_finished(50, 60, -4000, 6000, false), 200_000);
+    fn import_balancing_has_no_floor_of_its_own() {
+        // (50 - 60) x 6000 takes 60,000 from 200,000; 000 left 200,000.
+        assert_eq!(import_finished(50, 60, -4000, 6000, false), 140_000);
+        // So does (50 - 40) x -6000.
+        assert_eq!(import_finished(50, 40, -4000, -6000, false), 140_000);
         // A negative real-time price turns the signs round.
         assert_eq!(import_finished(50, 60, 1000, -6000, false), 10_000);
         assert_eq!(import_finished(50, 40, 1000, -6000, false), 0);
+    }
+
+    #[test]
+    fn an_import_finishes_not_below_0() {
+        // 50 x 4000 against 1 MWh above the schedule, a cent either way.
+        assert_eq!(import_finished(50, 51, -4000, 199_999, false), 1);
+        assert_eq!(import_finished(50, 51, -4000, 200_000, false), 0);
+        assert_eq!(import_finished(50, 51, -4000, 200_001, false), 0);
     }
 
     #[test]

@@ -164,6 +164,9 @@ fn the_largest_finished_amounts_stay_sound() {
     };
     let most = finished(import, 640_000, -1_000_000, 0);
     assert_eq!(most, 640_000_000_000);
+    // The least balancing payment, -630,000,000,000, less -10,000,000,000.
+    let least = finished(import, 640_000, 1_000_000, 0);
+    assert_eq!(least, 0);
 }
 
 #[test]

@@ -1,8 +1,9 @@
 //! Document 01, sentence by sentence, through the public book; in `kept`
-//! order 1 of document 02.
+//! order 1 of document 02, in `filed` order 2.
 
 mod edges;
 mod extremes;
+mod filed;
 mod helpers;
 mod kept;
 mod order;

@@ -11,10 +11,10 @@ fn each_finished_import_has_its_own_floor() {
         take(&mut book, open(key, 6000, false), &[50], &[0]);
         send(&mut book, post(key, 50, 4000, 0));
     }
-    // Balancing 0 less 200,000, and balancing 240,000 less 200,000.
-    assert_eq!(send(&mut book, finish(gain, 50, 6000, 0)), 0);
+    // Balancing -60,000 less 200,000, and balancing 240,000 less 200,000.
+    assert_eq!(send(&mut book, finish(gain, 60, 6000, 0)), 0);
     assert_eq!(send(&mut book, finish(loss, 10, 6000, 0)), 40_000);
-    let without_floors: [i64; 2] = [-200_000, 40_000];
+    let without_floors: [i64; 2] = [-260_000, 40_000];
     let one_floor_under_the_sum = without_floors.iter().sum::<i64>().max(0);
     assert_ne!(book.held(), one_floor_under_the_sum);
     assert_eq!(book.held(), 40_000);

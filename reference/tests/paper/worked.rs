@@ -1,4 +1,5 @@
-//! "Examples that a program prints": W1 to W14, through the book.
+//! "Examples that a program prints": W1 to W14, through the book. "W14
+//! becomes 140000" (02, order 2).
 
 use crate::helpers::*;
 
@@ -87,7 +88,7 @@ fn w1_to_w14() {
         printed,
         [
             600_000, 300_000, 40_000, 450_000, 476_000, 500_000, 460_000, 580_000, 16_000, 20_000,
-            15_000, 30_000, 0, 200_000
+            15_000, 30_000, 0, 140_000
         ]
     );
 }
