@@ -11,7 +11,7 @@ use lib.IntN.{ℤ, pos, _+ℤ_}
 use lib.Signed.{_≤ℤ_}
 use lib.ListN.{length, length-append}
 use borrow.Author.Tests.{leb-true, le-leb, eqb-true, eqb-false, eq-eqb}
-use Rattle.amounts.specs.Limits.{isPrice}
+use Rattle.amounts.specs.Limits.{isPointMwh, isPrice}
 use Rattle.amounts.specs.Lists.{every}
 use Rattle.amounts.proofs.Signed.{signed, tested, larger-of, sum-of}
 use Rattle.refusals.specs.Refusals.{row, None}
@@ -19,7 +19,7 @@ use Rattle.refusals.proofs.Laws.{and-left, and-right, and-both, none-join}
 use Rattle.kinds.specs.Kinds.{rulesOf, differentialFits, byKind}
 use Rattle.bids.specs.Points.{Point, curve, totalMwh, mwhAt, exposure}
 use Rattle.bids.specs.Bids.{exportBid, hourAheadBid, bidRequirement}
-use Rattle.bids.specs.Rows.{isPointMwh, pointRows, bidRows}
+use Rattle.bids.specs.Rows.{pointRows, bidRows}
 use Rattle.bids.specs.Joining.{isExport, Joined}
 use Rattle.bids.proofs.Largest.{exposure-is, exposure-only}
 use Rattle.bids.proofs.Curves.{Fit, fit, fit-bid}
@@ -144,9 +144,11 @@ joining kind m₁ m₂ p₁ p₂ d exempt k none₁ none₂ h =
     let b : bidRequirement kind (curve (m₂ ++ m₁) (p₂ ++ p₁)) d exempt ≡ exportBid (curve m₂ p₂ ++ curve m₁ p₁) w =
     asks kind k (curve (m₂ ++ m₁) (p₂ ++ p₁)) d exempt ∙ ap (λ (l : List Point). exportBid l w) (curve-join m₂ m₁ p₂ p₁ (g .equal)) in
     record {
-      accepted =
-          none-join (pointRows (m₁ ++ m₂) (p₁ ++ p₂)) (row 8 (not (differentialFits (rulesOf kind) d)) ∷ []) (points-join m₁ m₂ p₁ p₂ f g h)
-          (ap not (b₁ .1), tt);
+      accepted = (
+        none₁ .0,
+        none-join (pointRows (m₁ ++ m₂) (p₁ ++ p₂)) (row 8 (not (differentialFits (rulesOf kind) d)) ∷ []) (points-join m₁ m₂ p₁ p₂ f g h)
+            (ap not (b₁ .1), tt),
+      );
       commutes = a ∙ export-swap (curve m₁ p₁) (curve m₂ p₂) w ∙ sym b;
       left = rw (a, a₁) (s .left);
       right = rw (a, a₂) (s .right);

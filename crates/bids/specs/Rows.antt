@@ -1,19 +1,15 @@
 -- Document 01, 'Turned away, and why': rows 5 to 8 as they concern the points and the differential of a bid.
 -- Assumes nothing.
-use mathlib.Core.Bool.{Bool, not, _&&_}
+use mathlib.Core.Bool.{not, _&&_}
 use mathlib.Core.List.{List, [], _∷_, _++_}
 use Prim.Native.Nat.{ℕ}
-use lib.Dec.{leb, eqb}
+use lib.Dec.{eqb}
 use lib.IntN.{ℤ}
 use lib.ListN.{length}
-use Rattle.amounts.specs.Limits.{between, isPrice}
+use Rattle.amounts.specs.Limits.{between, isPointMwh, isPrice}
 use Rattle.amounts.specs.Lists.{every}
 use Rattle.refusals.specs.Refusals.{Row, row}
 use Rattle.kinds.specs.Kinds.{rulesOf, differentialFits}
-
--- 01, Numbers: 'MWh of a point: 0 to 10,000'
-abbrev pub isPointMwh : ℕ → Bool
-isPointMwh mwh = leb mwh 10000
 
 -- 5 'point count out of range or lists unequal', 6 'a quantity out of range', 7 'a price out of range'
 unfoldable pub pointRows : List ℕ → List ℤ → List Row
@@ -23,6 +19,6 @@ pointRows mwhs prices =
     ∷ row 7 (not (every isPrice prices))
     ∷ []
 
--- of the bid of an open or a revise: 5 to 8
+-- of the bid of an open or a revise: 5 to 8, and 5 also of a kind that bids by four curves (02, order 3)
 unfoldable pub bidRows : ℕ → List ℕ → List ℤ → ℕ → List Row
-bidRows kind mwhs prices differential = pointRows mwhs prices ++ (row 8 (not (differentialFits (rulesOf kind) differential)) ∷ [])
+bidRows kind mwhs prices differential = row 5 (rulesOf kind .intervals) ∷ (pointRows mwhs prices ++ (row 8 (not (differentialFits (rulesOf kind) differential)) ∷ []))

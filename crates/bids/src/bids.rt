@@ -30,7 +30,8 @@ fn bid_refusal(kind: u64, mwh: &[u64], prices: &[i64], differential: u64) -> u64
     let rules = Kind { number: kind }.rules();
     let last = pick(!rules.differential_fits(differential), 8, 0);
     let below = or_else(points_refusal(mwh, prices), last);
-    pick(!Kind { number: kind }.in_range(), 2, below)
+    let curves = pick(rules.intervals, 5, below);
+    pick(!Kind { number: kind }.in_range(), 2, curves)
 }
 
 fn import_bid(mwh: &[u64], prices: &[i64], differential: u64) -> i64
@@ -77,6 +78,8 @@ fn bid_requirement(kind: u64, mwh: &[u64], prices: &[i64], differential: u64, ex
         Kind::EXPORT => export_bid(mwh, prices, differential),
         Kind::HOUR_AHEAD_EXPORT => hour_ahead_bid(mwh, prices),
         Kind::WHEEL => wheel_exposure(mwh, prices),
+        // It bids by four curves: its row refuses first.
+        Kind::QUARTER_HOUR_EXPORT => 0,
         _ => 0,
     }
 }

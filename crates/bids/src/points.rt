@@ -5,11 +5,9 @@ ghost use mathlib.Core.Path.{_≡_};
 ghost use Prim.Native.Nat.{_<_, max};
 ghost use lib.IntN.{pos};
 ghost use lib.ListN.{length, getD};
-ghost use Rattle.amounts.specs.Limits.{isPrice};
-ghost use Rattle.amounts.specs.Lists.{every};
 ghost use Rattle.refusals.specs.Refusals.{first, None};
 ghost use Rattle.bids.specs.Points.{curve, largestMwh, totalMwh, mwhAt, Exposure, wheelExposure};
-ghost use Rattle.bids.specs.Rows.{isPointMwh, pointRows};
+ghost use Rattle.bids.specs.Rows.{pointRows};
 
 // The larger of two numbers of MWh or of cents.
 fn larger(a: u64, b: u64) -> u64
@@ -29,30 +27,6 @@ fn point(mwh: &[u64], prices: &[i64], i: usize) -> Point
     }
 }
 
-fn mwh_in_range(mwh: &[u64]) -> bool
-    ensures { λ r. ⌜ r ≡ every isPointMwh (now (mwh .entry)) ⌝ }
-{
-    let mut fit = true;
-    let mut i = mwh.len();
-    while 0 < i {
-        i -= 1;
-        fit = (mwh[i] <= Point::MAX_MWH) & fit;
-    }
-    fit
-}
-
-fn prices_in_range(prices: &[i64]) -> bool
-    ensures { λ r. ⌜ r ≡ every isPrice (now (prices .entry)) ⌝ }
-{
-    let mut fit = true;
-    let mut i = prices.len();
-    while 0 < i {
-        i -= 1;
-        fit = amounts::Price { cents: prices[i] }.in_range() & fit;
-    }
-    fit
-}
-
 // Refusals 5 to 7, in the table's order; 0 is none.
 pub(crate) fn points_refusal(mwh: &[u64], prices: &[i64]) -> u64
     ensures { λ r. ⌜ r ≡ first (pointRows (now (mwh .entry)) (now (prices .entry))) ⌝ }
@@ -62,7 +36,11 @@ pub(crate) fn points_refusal(mwh: &[u64], prices: &[i64]) -> u64
     pick(
         !counted,
         5,
-        pick(!mwh_in_range(mwh), 6, pick(!prices_in_range(prices), 7, 0)),
+        pick(
+            !amounts::points_in_range(mwh),
+            6,
+            pick(!amounts::prices_in_range(prices), 7, 0),
+        ),
     )
 }
 

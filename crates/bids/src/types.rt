@@ -3,9 +3,8 @@ ghost use mathlib.Core.Path.{_≡_};
 ghost use mathlib.Core.Bool.{true};
 ghost use lib.IntN.{pos, negℤ, _*ℤ_};
 ghost use Rattle.amounts.specs.Amount.{up};
-ghost use Rattle.amounts.specs.Limits.{isPrice};
+ghost use Rattle.amounts.specs.Limits.{isPointMwh, isPrice};
 ghost use Rattle.bids.specs.Points.{share};
-ghost use Rattle.bids.specs.Rows.{isPointMwh};
 
 // One point of a bid curve: whole MWh, and cents per MWh.
 pub struct Point {
@@ -15,8 +14,6 @@ pub struct Point {
 
 impl Point {
     pub const MAX_COUNT: usize = 64;
-
-    pub const MAX_MWH: u64 = 10_000;
 
     // Its price, or 0 where that is below 0.
     pub(crate) fn tried_price(self) -> u64

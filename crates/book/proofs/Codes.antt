@@ -11,7 +11,8 @@ use lib.Dec.{eqb}
 use borrow.Author.Tests.{eqb-true, eqb-false, ne-eqb}
 use Rattle.amounts.specs.Limits.{isSupport}
 use Rattle.amounts.specs.Lists.{every}
-use Rattle.refusals.proofs.Laws.{and-left, and-right, never}
+use Rattle.refusals.proofs.Laws.{and-left, and-right, and-none, never}
+use Rattle.kinds.specs.Kinds.{lastKind}
 use Rattle.keys.specs.declared.Key.{Key}
 use Rattle.keys.specs.Keys.{sameKey, keyFits}
 use Rattle.records.specs.declared.types.Record.{Record}
@@ -33,7 +34,7 @@ code-blank = refl
 pub record Ranges (r : Record) : Type 0 where
   pub used : isFree r ≡ false
   pub kind-low : 1 ≤ r .key .kind
-  pub kind-high : r .key .kind ≤ 4
+  pub kind-high : r .key .kind ≤ lastKind
   pub path-high : r .key .path ≤ 999
   pub hour-high : r .key .hour ≤ 999999
   pub code : codeOf r ≡ r .key .kind * 1073741824 + r .key .path * 1048576 + r .key .hour
@@ -115,19 +116,18 @@ distinct-numbers (r ∷ rs) h =
     used k ok = rw (k .used, ne-eqb (codeOf r) 0 (code-used r k)) (missing-code r rs k ok)
 
 -- ---- the parts of soundness, the places tested first
-and-none : (a b c : Bool) → b ≡ false → (a && b && c) ≡ false
-and-none true b c e = rw e
-and-none false b c e = refl
-
 and-middle : (a b c : Bool) → b ≡ true → (a && b && c) ≡ (a && c)
 and-middle true b c e = rw e
 and-middle false b c e = refl
 
--- a book is sound by the test of its places, that of its support, that of its keys' numbers, which are looked at whatever the places hold, and that of its totals
-pub sound-by : (b : Book) (ranged kept : Bool) (codes : List ℕ) → ranged ≡ every okPlace (b .records) → codes ≡ map codeOf (b .records) → (ranged ≡ true → kept ≡ keepsTotals (b .account) (held b) (owed b))
-    → (ranged && isSupport (b .account .support) && allDistinct codes && kept) ≡ sound b
+-- once its places are in range, a book is sound by the test of its support, that of its keys' numbers and that of its totals
+pub sound-by : (b : Book) (kept : Bool) (codes : List ℕ) → every okPlace (b .records) ≡ true → codes ≡ map codeOf (b .records) → kept ≡ keepsTotals (b .account) (held b) (owed b)
+    → (isSupport (b .account .support) && allDistinct codes && kept) ≡ sound b
 unfolding sound soundBy01
-sound-by b true kept codes e f g =
-    (λ i. (ap (λ (x : Bool). isSupport (b .account .support) && x) (ap allDistinct f ∙ sym (distinct-numbers (b .records) (sym e)))
-    ∙ sym (and-middle (isSupport (b .account .support)) (every okPlace (b .records)) (distinct (b .records)) (sym e))) i && g refl i)
-sound-by b false kept codes e f g = sym (ap (λ (x : Bool). x && keepsTotals (b .account) (held b) (owed b)) (and-none (isSupport (b .account .support)) (every okPlace (b .records)) (distinct (b .records)) (sym e)))
+sound-by b kept codes e f g =
+    λ i. (ap (λ (x : Bool). isSupport (b .account .support) && x) (ap allDistinct f ∙ sym (distinct-numbers (b .records) e))
+    ∙ sym (and-middle (isSupport (b .account .support)) (every okPlace (b .records)) (distinct (b .records)) e)) i && g i
+
+pub unsound-by : (b : Book) → every okPlace (b .records) ≡ false → sound b ≡ false
+unfolding sound soundBy01
+unsound-by b e = ap (λ (x : Bool). x && keepsTotals (b .account) (held b) (owed b)) (and-none (isSupport (b .account .support)) (every okPlace (b .records)) (distinct (b .records)) e)

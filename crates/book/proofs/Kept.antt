@@ -2,9 +2,11 @@
 -- Assumes nothing.
 use mathlib.Core.Path.{_≡_, refl, sym, _∙_, subst}
 use mathlib.Core.Bool.{true, false, _&&_}
-use mathlib.Core.List.{List}
+use mathlib.Core.List.{List, map}
 use mathlib.Core.Logic.{inl, inr}
 use mathlib.Core.Option.{Option, none, some}
+use Prim.Native.Nat.{ℕ}
+use lib.IntN.{ℤ}
 use Rattle.amounts.specs.Limits.{isSupport}
 use Rattle.amounts.specs.Lists.{every}
 use Rattle.refusals.specs.Refusals.{None}
@@ -13,9 +15,9 @@ use Rattle.keys.specs.declared.Key.{Key}
 use Rattle.records.specs.declared.types.Record.{Record}
 use Rattle.messages.specs.declared.types.Message.{Message}
 use Rattle.messages.specs.declared.types.Change.{Change}
-use Rattle.messages.specs.declared.types.Change.the-variants.{Add, Rebid, Advance, Remove}
+use Rattle.messages.specs.declared.types.Change.the-variants.{Add, Rebid, Advance, Remove, AddPending}
 use Rattle.messages.specs.declared.types.Deed.{Deed}
-use Rattle.messages.specs.declared.types.Deed.the-variants.{Keyed, SetSupport}
+use Rattle.messages.specs.declared.types.Deed.the-variants.{Keyed, SetSupport, CloseHour}
 use Rattle.records.specs.Records.{blank, isFree, at, okPlace}
 use Rattle.messages.specs.Plan.{keyOf}
 use Rattle.records.proofs.Places.{at-key, at-used, free-blank, place-used}
@@ -26,8 +28,12 @@ use Rattle.credit.specs.Credit.{creditRows}
 use Rattle.credit.proofs.Keeping.{keeps-held, keeps-owed, keeps-own}
 use Rattle.book.specs.Places.{find, swap, missing, orElseBlank}
 use Rattle.book.specs.Books.{Book, lookup, sound, soundBy01, distinct, held, owed, heldOver, owedOver, accountOver, full, totals}
-use Rattle.book.specs.Step.{change, rebook, done}
+use Rattle.batches.specs.Batches.{batched}
+use Rattle.batches.proofs.Laws.{batched-every}
+use Rattle.book.specs.Step.{change, rebook, tooMuch, done}
+use Rattle.book.proofs.Verdicts.{bookRows}
 use Rattle.book.proofs.Places.{find-passes, every-find}
+use Rattle.book.proofs.Batched.{batched-distinct}
 use Rattle.book.proofs.Effect.{Effect, effect-add, effect-put, effect-drop}
 
 -- ---- the parts of soundness
@@ -106,10 +112,15 @@ leaves (Add r) = some r
 leaves (Rebid was r) = some r
 leaves (Advance r) = some r
 leaves (Remove k) = none
+leaves (AddPending r) = some r
 
 room : (b : Book) (r : Record) → None (creditRows (totals b) (Keyed (Add r))) → missing (find isFree (b .records)) ≡ false
 unfolding None totals full
 room b r h = h .1 .0
+
+room-pending : (b : Book) (r : Record) → None (creditRows (totals b) (Keyed (AddPending r))) → missing (find isFree (b .records)) ≡ false
+unfolding None totals full
+room-pending b r h = h .1 .0
 
 -- the places of a sound book, after a change that fits and is not turned away
 pub effect : (b : Book) (m : Message) (c : Change) → sound b ≡ true → Fits (lookup b (keyOf m)) m (Keyed c) → None (creditRows (totals b) (Keyed c))
@@ -126,10 +137,16 @@ effect b m (Advance r) h f w =
 effect b m (Remove k) h f w =
     subst (λ (l : Key). Effect (keyOf m) (b .records) (swap (at l) blank (b .records)) none) (sym (f .own))
     (effect-drop (keyOf m) (b .records) (sound-places b h) (sound-distinct b h) (lookup b (keyOf m)) (lookup-some b (keyOf m) (f .used)))
+effect b m (AddPending r) h f w =
+    effect-add (keyOf m) (b .records) (sound-places b h) (sound-distinct b h) r (lookup-none b (keyOf m) (f .added .free)) (room-pending b r w) (f .added .fine)
 
-pub done-sound : (b : Book) (m : Message) (d : Deed) → sound b ≡ true → Fits (lookup b (keyOf m)) m d → None (creditRows (totals b) d) → sound (done b d) ≡ true
+pub done-sound : (b : Book) (m : Message) (ms : List ℕ) (ps : List ℤ) (d : Deed) → sound b ≡ true → Fits (lookup b (keyOf m)) m d → None (bookRows b ms d) → sound (done b ms ps d) ≡ true
 unfolding done
-done-sound b m (Keyed c) h f w =
+done-sound b m ms ps (Keyed c) h f w =
     let e = effect b m c h f w in
     sound-make b (b .account) (change c (b .records)) (sound-support b h) (e .fine) (e .apart)
-done-sound b m (SetSupport z) h f w = sound-make b (supported (b .account) z) (b .records) f (sound-places b h) (sound-distinct b h)
+done-sound b m ms ps (SetSupport z) h f w = sound-make b (supported (b .account) z) (b .records) f (sound-places b h) (sound-distinct b h)
+done-sound b m ms ps (CloseHour hour) h f w =
+    let much = tooMuch b hour ms ps in
+    sound-make b (b .account) (map (batched much hour ms ps) (b .records)) (sound-support b h) (batched-every much hour ms ps (b .records) (sound-places b h))
+    (batched-distinct much hour ms ps (b .records) (sound-distinct b h))

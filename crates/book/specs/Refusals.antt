@@ -1,39 +1,43 @@
--- Document 01, 'Turned away, and why': the whole table, message by message. 'Checked in this order; the first that applies is given, and only those that concern the message.'
--- Each test stands with what it is about: a kind's in `kinds`, a key's in `records`, points' in `bids`, the totals' in `credit`. proofs/Verdicts.antt shows (table-parts) that this is
--- row 1, then what a message's plan is refused by (2 to 13, `planRows`, which sees the message and its record), then what the totals refuse (14 to 16, `creditRows`).
+-- Document 01, 'Turned away, and why', and 02, order 3: the whole table, message by message. 'Checked in this order; the first that applies is given, and only those that concern the message.'
+-- Each test stands with what it is about: a kind's in `kinds`, a key's in `keys`, points' in `bids` and `intervals`, a close's in `closings` and `batches`, the totals' in `credit`.
+-- proofs/Verdicts.antt shows (table-parts) that this is row 1, then what a message's plan is refused by (2 to 13, `planRows`, which sees the message and its record), then what the
+-- totals refuse (14 to 16, `creditRows`), or the places (a close's 11, `batchRows`).
 -- Assumes nothing.
 use mathlib.Core.Bool.{not, _&&_}
 use mathlib.Core.List.{List, [], _∷_}
-use Prim.Native.Nat.{ℕ}
+use Prim.Native.Nat.{ℕ, _*_}
 use lib.Dec.{leb, eqb}
-use lib.IntN.{ℤ, _+ℤ_, _-ℤ_}
+use lib.IntN.{ℤ, pos, _+ℤ_, _-ℤ_}
 use lib.ListN.{length}
 use lib.Signed.{ltZ}
-use Rattle.amounts.specs.Limits.{between, isQuantity, isPrice, isBill, isSupport}
+use Rattle.amounts.specs.Limits.{between, isPointMwh, isQuantity, isPrice, isBill, isSupport}
 use Rattle.amounts.specs.Lists.{every}
 use Rattle.refusals.specs.Refusals.{Row, row}
-use Rattle.kinds.specs.Kinds.{bidStage, billedStage, isKind, rulesOf, isPath, differentialFits, pricesFit}
-use Rattle.bids.specs.Rows.{isPointMwh}
+use Rattle.kinds.specs.Kinds.{quarterHour, bidStage, billedStage, isKind, rulesOf, isPath, differentialFits, pricesFit}
 use Rattle.keys.specs.Keys.{isHour}
+use Rattle.intervals.specs.Intervals.{points, countsFit}
+use Rattle.closings.specs.Closings.{eachOnce}
+use Rattle.batches.specs.Batches.{unmatched}
 use Rattle.records.specs.Records.{isFree}
 use Rattle.messages.specs.declared.types.Message.{Message}
-use Rattle.messages.specs.declared.types.Message.the-variants.{Open, Revise, Withdraw, Post, Finish, Bill, Pay, Support}
+use Rattle.messages.specs.declared.types.Message.the-variants.{Open, Revise, Withdraw, Post, Finish, Bill, Pay, Support, OpenCurves, ReviseCurves, Close}
 use Rattle.messages.specs.Plan.{bidFor}
 use Rattle.credit.specs.Credit.{suspended}
 use Rattle.book.specs.Books.{Book, lookup, sound, totals}
 
 -- 1 'book not sound'
--- 2 'kind not 1 to 4', 3 'path out of range', 4 'hour out of range'
--- 5 'point count out of range or lists unequal', 6 'a quantity out of range', 7 'a price out of range or not 0 where it must be', 8 'differential out of range', 9 'amount out of range'
--- 10 'open: key already open', 11 'other keyed messages: key not open', 12 'wrong stage', 13 'schedule above bid MWh'
+-- 2 'kind not 1 to 4' (02, order 3: 'kinds run to 5'), 3 'path out of range', 4 'hour out of range'
+-- 5 'point count out of range or lists unequal' (02, order 3: 'an interval too long, all four empty, or a path listed twice', and one curve where the kind has four, or four where it has one), 6 'a quantity out of range', 7 'a price out of range or not 0 where it must be', 8 'differential out of range', 9 'amount out of range'
+-- 10 'open: key already open', 11 'other keyed messages: key not open' (02, order 3: 'when the hour has no pending bid or the paths aren't those pending'), 12 'wrong stage', 13 'schedule above bid MWh'
 -- 14 'open or revise while suspended', 15 'open with 256 records',
--- 16 'open: held + requirement above support; revise: the new requirement is above the old and held afterwards is above support'
+-- 16 'open: held + requirement above support; revise: the new requirement is above the old and held afterwards is above support' (02, order 3: '16 never for opening kind 5')
 unfoldable pub table : Book → Message → List ℕ → List ℤ → List Row
 table b (Open o) mwhs prices =
     row 1 (not (sound b))
     ∷ row 2 (not (isKind (o .key .kind)))
     ∷ row 3 (not (isPath (rulesOf (o .key .kind)) (o .key .path)))
     ∷ row 4 (not (isHour (o .key .hour)))
+    ∷ row 5 (rulesOf (o .key .kind) .intervals)
     ∷ row 5 (not (between 1 64 (length mwhs) && eqb (length mwhs) (length prices)))
     ∷ row 6 (not (every isPointMwh mwhs))
     ∷ row 7 (not (every isPrice prices))
@@ -48,6 +52,7 @@ table b (Revise o) mwhs prices =
     ∷ row 2 (not (isKind (o .key .kind)))
     ∷ row 3 (not (isPath (rulesOf (o .key .kind)) (o .key .path)))
     ∷ row 4 (not (isHour (o .key .hour)))
+    ∷ row 5 (rulesOf (o .key .kind) .intervals)
     ∷ row 5 (not (between 1 64 (length mwhs) && eqb (length mwhs) (length prices)))
     ∷ row 6 (not (every isPointMwh mwhs))
     ∷ row 7 (not (every isPrice prices))
@@ -106,3 +111,41 @@ table b (Pay k) mwhs prices =
     ∷ row 12 (not (eqb (lookup b k .stage) billedStage))
     ∷ []
 table b (Support s) mwhs prices = row 1 (not (sound b)) ∷ row 9 (not (isSupport (s .cents))) ∷ []
+table b (OpenCurves c) mwhs prices =
+    row 1 (not (sound b))
+    ∷ row 2 (not (isKind (c .key .kind)))
+    ∷ row 3 (not (isPath (rulesOf (c .key .kind)) (c .key .path)))
+    ∷ row 4 (not (isHour (c .key .hour)))
+    ∷ row 5
+    (not (rulesOf (c .key .kind) .intervals && countsFit (c .counts) && eqb (length mwhs) (points (c .counts)) && eqb (length prices) (points (c .counts))))
+    ∷ row 6 (not (every isPointMwh mwhs))
+    ∷ row 7 (not (every isPrice prices))
+    ∷ row 10 (not (isFree (lookup b (c .key))))
+    ∷ row 14 (suspended (totals b))
+    ∷ row 15 (totals b .full)
+    ∷ []
+-- 16 never applies here: the new requirement is 0, and that of a pending bid is not below it
+table b (ReviseCurves c) mwhs prices =
+    row 1 (not (sound b))
+    ∷ row 2 (not (isKind (c .key .kind)))
+    ∷ row 3 (not (isPath (rulesOf (c .key .kind)) (c .key .path)))
+    ∷ row 4 (not (isHour (c .key .hour)))
+    ∷ row 5
+    (not (rulesOf (c .key .kind) .intervals && countsFit (c .counts) && eqb (length mwhs) (points (c .counts)) && eqb (length prices) (points (c .counts))))
+    ∷ row 6 (not (every isPointMwh mwhs))
+    ∷ row 7 (not (every isPrice prices))
+    ∷ row 11 (isFree (lookup b (c .key)))
+    ∷ row 12 (not (eqb (lookup b (c .key) .stage) bidStage))
+    ∷ row 14 (suspended (totals b))
+    ∷ row 16
+    (ltZ (lookup b (c .key) .requirement) (pos 0)
+    && ltZ (totals b .support) (totals b .held -ℤ lookup b (c .key) .requirement +ℤ pos 0))
+    ∷ []
+table b (Close c) paths prices =
+    row 1 (not (sound b))
+    ∷ row 3 (not (every (isPath (rulesOf quarterHour)) paths))
+    ∷ row 4 (not (isHour (c .hour)))
+    ∷ row 5 (not (eachOnce paths && eqb (length prices) (length paths * 4)))
+    ∷ row 7 (not (every isPrice prices))
+    ∷ row 11 (unmatched (c .hour) paths (b .records))
+    ∷ []

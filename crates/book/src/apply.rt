@@ -1,4 +1,4 @@
-// The one entry that takes any message, and the eight messages.
+// The one entry that takes any message, and the eleven messages.
 ghost use mathlib.Core.Path.{_≡_};
 ghost use mathlib.Core.List.{[]};
 ghost use Rattle.book.specs.Step.{step};
@@ -9,18 +9,21 @@ use dispatch::plan_of;
 use endings::types::View;
 use keys::Key;
 use messages::types::Billing;
+use messages::types::Closing;
+use messages::types::Curves;
 use messages::types::Finishing;
 use messages::types::Funding;
 use messages::types::Message;
 use messages::types::Opening;
 use messages::types::Posting;
+use refusals::Answer;
 use walk::code;
 use walk::types::Walk;
 
 impl Book {
-    // Any message, with the points of an open or a revise beside it; the others have none.
+    // Any message, with its two lists beside it: the points of an open or a revise, the paths and prices of a close; the others have none.
     //
-    // The only function that reads or writes the places, in one walk and at most one write: each function that takes a book copies it.
+    // It reads and writes the places in one walk and at most one write, since each function that takes a book copies it; a close alone is handed on.
     pub fn apply(self, message: Message, mwh: &[u64], prices: &[i64]) -> Outcome
         ensures { λ r. ⌜ r ≡ step self message (now (mwh .entry)) (now (prices .entry)) ⌝ }
     {
@@ -33,6 +36,17 @@ impl Book {
         while 0 < i {
             i -= 1;
             let r = next.records[i];
+            // At the first place that is out of range: nothing else is asked.
+            if !r.is_sound() {
+                return Outcome {
+                    book: next,
+                    answer: Answer::Refused {
+                        number: 1,
+                        held: 0,
+                        owed: 0,
+                    },
+                };
+            }
             codes[i] = code(r);
             walk = walk.with(r, key, i as u64);
         }
@@ -40,6 +54,10 @@ impl Book {
         let old = walk.old(next.records[walk.at as usize % Book::PLACES]);
         let view = View::of(walk, next.account, &codes, old);
         let ending = view.ending(plan_of(message, old, mwh, prices));
+        let hour = ending.hour;
+        if hour <= Key::MAX_HOUR {
+            return next.closed(hour, mwh, prices);
+        }
         let answer = ending.answer;
         let place = ending.place as usize;
         let new = ending.new;
@@ -106,5 +124,24 @@ impl Book {
         ensures { λ r. ⌜ r ≡ step self (Message.Support funding) [] [] ⌝ }
     {
         self.without_points(Message::Support(funding))
+    }
+    // Of four interval curves, whose points stand one interval after another.
+    pub fn open_curves(self, curves: Curves, mwh: &[u64], prices: &[i64]) -> Outcome
+        ensures { λ r. ⌜ r ≡ step self (Message.OpenCurves curves) (now (mwh .entry)) (now (prices .entry)) ⌝ }
+    {
+        self.apply(Message::OpenCurves(curves), mwh, prices)
+    }
+
+    pub fn revise_curves(self, curves: Curves, mwh: &[u64], prices: &[i64]) -> Outcome
+        ensures { λ r. ⌜ r ≡ step self (Message.ReviseCurves curves) (now (mwh .entry)) (now (prices .entry)) ⌝ }
+    {
+        self.apply(Message::ReviseCurves(curves), mwh, prices)
+    }
+
+    // The pending bids of an hour: their paths, in any order, and four interval prices for each.
+    pub fn close(self, closing: Closing, paths: &[u64], prices: &[i64]) -> Outcome
+        ensures { λ r. ⌜ r ≡ step self (Message.Close closing) (now (paths .entry)) (now (prices .entry)) ⌝ }
+    {
+        self.apply(Message::Close(closing), paths, prices)
     }
 }

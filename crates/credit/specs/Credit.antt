@@ -1,4 +1,4 @@
--- Document 01, 'Turned away, and why': refusals 14 to 16, which see a book's totals and what is asked for, and nothing else;
+-- Document 01, 'Turned away, and why', and 02, order 3: refusals 14 to 16, which see a book's totals and what is asked for, and nothing else;
 -- what of a record is owed, and the requirement that an acceptance answers.
 -- Assumes nothing.
 use mathlib.Core.Bool.{Bool, _&&_, cond}
@@ -9,9 +9,10 @@ use lib.Signed.{ltZ, leZ}
 use Rattle.refusals.specs.Refusals.{Row, row}
 use Rattle.kinds.specs.Kinds.{billedStage}
 use Rattle.records.specs.declared.types.Record.{Record}
-use Rattle.messages.specs.declared.types.Change.the-variants.{Add, Rebid, Advance, Remove}
+use Rattle.messages.specs.declared.types.Change.{Change}
+use Rattle.messages.specs.declared.types.Change.the-variants.{Add, Rebid, Advance, Remove, AddPending}
 use Rattle.messages.specs.declared.types.Deed.{Deed}
-use Rattle.messages.specs.declared.types.Deed.the-variants.{Keyed, SetSupport}
+use Rattle.messages.specs.declared.types.Deed.the-variants.{Keyed, SetSupport, CloseHour}
 pub use Rattle.credit.specs.declared.types.Totals.{Totals}
 
 -- what of a record is owed: 'Net owed is the sum over stage 4'
@@ -33,12 +34,15 @@ creditRows t (Keyed (Rebid was r)) =
     row 14 (suspended t) ∷ row 16 (ltZ was (r .requirement) && ltZ (t .support) (t .held -ℤ was +ℤ r .requirement)) ∷ []
 creditRows t (Keyed (Advance r)) = []
 creditRows t (Keyed (Remove k)) = []
+-- 02, order 3: '16 never for opening kind 5'
+creditRows t (Keyed (AddPending r)) = row 14 (suspended t) ∷ row 15 (t .full) ∷ []
 creditRows t (SetSupport support) = []
+creditRows t (CloseHour hour) = []
 
--- 'the key's requirement (0 after withdraw, pay and support)'
-abbrev pub answeredBy : Deed → ℤ
-answeredBy (Keyed (Add r)) = r .requirement
-answeredBy (Keyed (Rebid was r)) = r .requirement
-answeredBy (Keyed (Advance r)) = r .requirement
-answeredBy (Keyed (Remove k)) = pos 0
-answeredBy (SetSupport support) = pos 0
+-- 'the key's requirement (0 after withdraw, pay ..)'
+abbrev pub answeredBy : Change → ℤ
+answeredBy (Add r) = r .requirement
+answeredBy (Rebid was r) = r .requirement
+answeredBy (Advance r) = r .requirement
+answeredBy (Remove k) = pos 0
+answeredBy (AddPending r) = r .requirement

@@ -2,9 +2,9 @@
 -- Assumes nothing.
 use Prim.Native.Nat.{ℕ}
 use Rattle.amounts.specs.Amount.{Within}
-use Rattle.messages.specs.declared.types.Change.the-variants.{Add, Rebid, Advance, Remove}
+use Rattle.messages.specs.declared.types.Change.the-variants.{Add, Rebid, Advance, Remove, AddPending}
 use Rattle.messages.specs.declared.types.Deed.{Deed}
-use Rattle.messages.specs.declared.types.Deed.the-variants.{Keyed, SetSupport}
+use Rattle.messages.specs.declared.types.Deed.the-variants.{Keyed, SetSupport, CloseHour}
 use Rattle.credit.specs.Credit.{Totals}
 use Rattle.credit.specs.Sums.{Sums}
 
@@ -23,4 +23,6 @@ DeedBounded (Keyed (Add r)) = Within 1300000000000 (r .requirement)
 DeedBounded (Keyed (Rebid was r)) = Within 1300000000000 was × Within 1300000000000 (r .requirement)
 DeedBounded (Keyed (Advance r)) = Unit {0}
 DeedBounded (Keyed (Remove k)) = Unit {0}
+DeedBounded (Keyed (AddPending r)) = Unit {0}
 DeedBounded (SetSupport support) = Unit {0}
+DeedBounded (CloseHour hour) = Unit {0}

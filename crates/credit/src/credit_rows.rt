@@ -70,6 +70,8 @@ impl Totals {
             ),
             Change::Advance(_) => 0,
             Change::Remove(_) => 0,
+            // Its credit is not checked.
+            Change::AddPending(_) => pick(self.is_suspended(), 14, pick(self.full, 15, 0)),
         }
     }
 
@@ -81,6 +83,7 @@ impl Totals {
         match deed {
             Deed::Keyed(change) => self.change_refusal(change),
             Deed::SetSupport(_) => 0,
+            Deed::CloseHour(_) => 0,
         }
     }
 }

@@ -1,4 +1,4 @@
--- Document 01, 'Turned away, and why': rows 6 to 9 as they concern the numbers of a post, a finish and a bill, and row 12 as it concerns posting kind 3.
+-- Document 01, 'Turned away, and why': rows 6 to 9 as they concern the numbers of a post, a finish and a bill, and row 12 as it concerns posting kinds 3 and 5.
 -- Assumes nothing.
 use mathlib.Core.Bool.{not, _&&_}
 use mathlib.Core.List.{List, [], _∷_, _++_}
@@ -15,7 +15,7 @@ deliveryRows kind mwh price second = row 6 (not (isQuantity mwh)) ∷ row 7 (not
 
 -- ---- the rows of each entry, in 01's order
 
--- of the posted amount: 6, 7, 8, and 12 'Post .. is not for kind 3'
+-- of the posted amount: 6, 7, 8, and 12 'Post .. is not for kind 3', '12 for posting kind 5' (02, order 3)
 unfoldable pub postedRows : ℕ → ℕ → ℕ → ℤ → ℤ → List Row
 postedRows kind differential schedule price second =
     deliveryRows kind schedule price second ++ (row 8 (not (differentialFits (rulesOf kind) differential)) ∷ row 12 (eqb (rulesOf kind .posted) never) ∷ [])

@@ -1,4 +1,4 @@
-// The eight messages as one: the key that any of them has, and what it asks of the record under it.
+// The eleven messages as one: the key that any of them has, and what it asks of the record under it.
 ghost use mathlib.Core.Path.{_≡_};
 ghost use Rattle.messages.specs.Plan.{keyOf, plan, planned};
 use keys::Key;
@@ -6,7 +6,7 @@ use messages::types::Message;
 use messages::types::Planned;
 use records::types::Record;
 
-// A support change has no key; that of a free place stands for it, and no record is under it.
+// A support change and a close have no key; that of a free place stands for it, and no record is under it.
 pub fn key_of(message: Message) -> Key
     ensures { λ k. ⌜ k ≡ keyOf message ⌝ }
 {
@@ -19,6 +19,9 @@ pub fn key_of(message: Message) -> Key
         Message::Bill(billing) => billing.key,
         Message::Pay(key) => key,
         Message::Support(_) => Record::blank().key,
+        Message::OpenCurves(curves) => curves.key,
+        Message::ReviseCurves(curves) => curves.key,
+        Message::Close(_) => Record::blank().key,
     }
 }
 
@@ -34,5 +37,8 @@ pub fn plan_of(message: Message, old: Record, mwh: &[u64], prices: &[i64]) -> Pl
         Message::Bill(billing) => moves::bill(billing, old),
         Message::Pay(key) => moves::pay(key, old),
         Message::Support(funding) => moves::support(funding),
+        Message::OpenCurves(curves) => openings::open_curves(curves, old, mwh, prices),
+        Message::ReviseCurves(curves) => openings::revise_curves(curves, old, mwh, prices),
+        Message::Close(closing) => moves::close(closing, mwh, prices),
     }
 }

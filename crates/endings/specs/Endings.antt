@@ -10,9 +10,9 @@ use Rattle.amounts.specs.Amount.{Within}
 use Rattle.amounts.specs.Limits.{isSupport}
 use Rattle.distinct.specs.Numbers.{allDistinct}
 use Rattle.refusals.specs.Refusals.{Verdict, refuse, accept, judge}
-use Rattle.messages.specs.declared.types.Change.the-variants.{Add, Rebid, Advance, Remove}
+use Rattle.messages.specs.declared.types.Change.the-variants.{Add, Rebid, Advance, Remove, AddPending}
 use Rattle.messages.specs.declared.types.Deed.{Deed}
-use Rattle.messages.specs.declared.types.Deed.the-variants.{Keyed, SetSupport}
+use Rattle.messages.specs.declared.types.Deed.the-variants.{Keyed, SetSupport, CloseHour}
 use Rattle.messages.specs.declared.types.Planned.{Planned}
 use Rattle.messages.specs.declared.types.Planned.the-variants.{Refused as Turned, Asks}
 use Rattle.records.specs.declared.types.Record.{Record}
@@ -20,7 +20,6 @@ use Rattle.records.specs.Records.{blank, okPlace}
 use Rattle.walk.specs.declared.types.Walk.{Walk}
 use Rattle.credit.specs.declared.types.Totals.{Totals}
 use Rattle.credit.specs.declared.types.Account.{Account}
-use Rattle.credit.specs.declared.types.Sums.{Sums}
 use Rattle.credit.specs.Account.{supported}
 use Rattle.credit.specs.Credit.{creditRows}
 use Rattle.credit.specs.Sums.{withRecord, withoutRecord, summed, keepsSums}
@@ -32,11 +31,11 @@ pub use Rattle.endings.specs.declared.types.Ending.{Ending}
 
 -- ---- what a message sees
 
--- once a walk has passed every place: the keys' numbers stand apart, the kept totals are the sums' (02, order 1), and so on
+-- once a walk has passed every place, each in range: the keys' numbers stand apart, the kept totals are the sums' (02, order 1), and so on
 abbrev pub viewOf : Walk → Account → List ℕ → Record → View
 viewOf s account codes old =
     record {
-      sound = s .ranged && isSupport (account .support) && allDistinct codes && keepsSums account (s .sums);
+      sound = isSupport (account .support) && allDistinct codes && keepsSums account (s .sums);
       account = account;
       sums = s .sums;
       free = s .free;
@@ -56,7 +55,9 @@ DeedSound (Keyed (Add r)) = okPlace r ≡ true
 DeedSound (Keyed (Rebid was r)) = Within 1300000000000 was × (okPlace r ≡ true)
 DeedSound (Keyed (Advance r)) = okPlace r ≡ true
 DeedSound (Keyed (Remove k)) = Unit {0}
+DeedSound (Keyed (AddPending r)) = okPlace r ≡ true
 DeedSound (SetSupport support) = Unit {0}
+DeedSound (CloseHour hour) = Unit {0}
 
 abbrev pub PlanSound : Planned → Type 0
 PlanSound (Turned n) = Unit {0}
@@ -92,8 +93,12 @@ accepting requirement account = Accepted requirement (account .held) (account .o
 abbrev pub refusing : ℕ → Account → Answer
 refusing number account = Refused number (account .held) (account .owed)
 
+-- one past the last hour: no batch
+abbrev pub noBatch : ℕ
+noBatch = 1000000
+
 abbrev pub unwritten : Answer → Account → Ending
-unwritten answer account = record { answer = answer; account = account; place = 256; new = blank }
+unwritten answer account = record { answer = answer; account = account; place = 256; new = blank; hour = noBatch }
 
 unfoldable pub unsound : View → Ending
 unsound s = unwritten (Refused 1 (pos 0) (pos 0)) (s .account)
@@ -112,14 +117,21 @@ putIn s place was new =
       account = accountAfter s was new;
       place = place;
       new = new;
+      hour = noBatch;
     }
+
+-- a close, once nothing has turned it away by itself: the places have still to be asked (02, order 3)
+abbrev pub leftTo : View → ℕ → Ending
+leftTo s hour = record { answer = accepting (pos 0) (s .account); account = s .account; place = 256; new = blank; hour = hour }
 
 abbrev pub carriedOut : View → Deed → Ending
 carriedOut s (Keyed (Add r)) = putIn s (s .free) blank r
 carriedOut s (Keyed (Rebid was r)) = putIn s (s .at) (s .old) r
 carriedOut s (Keyed (Advance r)) = putIn s (s .at) (s .old) r
 carriedOut s (Keyed (Remove k)) = putIn s (s .at) (s .old) blank
+carriedOut s (Keyed (AddPending r)) = putIn s (s .free) blank r
 carriedOut s (SetSupport support) = unwritten (accepting (pos 0) (supported (s .account) support)) (supported (s .account) support)
+carriedOut s (CloseHour hour) = leftTo s hour
 
 unfoldable pub endingOf : View → Verdict Deed → Ending
 endingOf s (refuse n) = turnedAway s n

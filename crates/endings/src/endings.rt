@@ -3,7 +3,7 @@ ghost use mathlib.Core.Path.{_≡_};
 ghost use mathlib.Core.Bool.{true};
 ghost use Rattle.records.specs.Records.{okPlace};
 ghost use Rattle.credit.specs.NoOverflow.{SumsWithin};
-ghost use Rattle.endings.specs.Endings.{Summable, asVerdict, viewOf, totalsOf, creditVerdict, unwritten, turnedAway, unsound, putIn, carriedOut, endingOf, ended};
+ghost use Rattle.endings.specs.Endings.{Summable, asVerdict, viewOf, totalsOf, creditVerdict, unwritten, turnedAway, unsound, putIn, leftTo, carriedOut, endingOf, ended};
 use crate::answers::accepting;
 use crate::answers::refusing;
 use crate::types::Ending;
@@ -29,6 +29,7 @@ impl Ending {
             account,
             place: Walk::NOWHERE,
             new,
+            hour: Ending::NO_BATCH,
         }
     }
 }
@@ -44,10 +45,7 @@ impl View {
         };
         let sums = walk.sums;
         View {
-            sound: walk.ranged
-                & amount.is_support()
-                & distinct::all_distinct(codes)
-                & account.keeps(sums),
+            sound: amount.is_support() & distinct::all_distinct(codes) & account.keeps(sums),
             account,
             sums,
             free: walk.free,
@@ -90,6 +88,7 @@ impl View {
             account: next,
             place,
             new,
+            hour: Ending::NO_BATCH,
         }
     }
 
@@ -102,6 +101,7 @@ impl View {
             Change::Rebid(_, r) => self.put(self.at, self.old, r),
             Change::Advance(r) => self.put(self.at, self.old, r),
             Change::Remove(_) => self.put(self.at, self.old, Record::blank()),
+            Change::AddPending(r) => self.put(self.free, Record::blank(), r),
         }
     }
 
@@ -111,6 +111,22 @@ impl View {
         let account = self.account;
         let next = account.supported(support);
         Ending::unwritten(accepting(0, next), next)
+    }
+
+    // A close, whose batch is left to the places.
+    fn left(self, hour: u64) -> Ending
+        ensures { λ e. ⌜ e ≡ leftTo self hour ⌝ }
+    {
+        let account = self.account;
+        let answer = accepting(0, account);
+        let new = Record::blank();
+        Ending {
+            answer,
+            account,
+            place: Walk::NOWHERE,
+            new,
+            hour,
+        }
     }
 
     fn carried(self, deed: Deed) -> Ending
@@ -124,6 +140,7 @@ impl View {
         match deed {
             Deed::Keyed(change) => self.changed(change),
             Deed::SetSupport(support) => self.funded(support),
+            Deed::CloseHour(hour) => self.left(hour),
         }
     }
 

@@ -16,10 +16,17 @@ pub struct View {
     pub old: Record,
 }
 
-// All that is left to write: a record at a place (at 256, none), and what is kept beside the places; and the answer.
+// All that is left to write: a record at a place (at 256, none), and what is kept beside the places; and the answer. Or the batch of an hour, which is seen and written in the places.
 pub struct Ending {
     pub answer: Answer,
     pub account: Account,
     pub place: u64,
     pub new: Record,
+    // `NO_BATCH`, or the hour that is closed.
+    pub hour: u64,
+}
+
+impl Ending {
+    // One past the last hour.
+    pub const NO_BATCH: u64 = 1_000_000;
 }

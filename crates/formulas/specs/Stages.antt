@@ -31,7 +31,7 @@ exportPosted schedule dayAhead differential = pos schedule *ℤ Max dayAhead (po
 unfoldable pub exportFinished : ℤ → ℕ → ℕ → ℤ → ℤ
 exportFinished postedCents schedule actual realTime = postedCents -ℤ balancing schedule actual realTime +ℤ balancing actual schedule realTime
 
--- 'Finished, kind 3: Max(actual x real-time price, 0)'
+-- 'Finished, kind 3: Max(actual x real-time price, 0)'; 02, order 3, of kind 5: 'Finish, from stage 2, gives Max(actual x real-time price, 0)'
 unfoldable pub hourAheadFinished : ℕ → ℤ → ℤ
 hourAheadFinished actual realTime = Max (pos actual *ℤ realTime) (pos 0)
 
@@ -49,10 +49,10 @@ wheelFinished postedCents schedule actual withdrawal injection =
 
 -- ---- by kind
 
--- stage 2, which an Hour-Ahead export does not have; the prices are the message's first and second
+-- stage 2, to which no Hour-Ahead export is posted; the prices are the message's first and second
 unfoldable pub postedRequirement : ℕ → ℕ → Bool → ℕ → ℤ → ℤ → ℤ
 postedRequirement kind differential exempt schedule price second =
-    byKind kind (unlessExempt exempt (importPosted schedule differential)) (exportPosted schedule price differential) (pos 0) (wheelPosted schedule price second) (pos 0)
+    byKind kind (unlessExempt exempt (importPosted schedule differential)) (exportPosted schedule price differential) (pos 0) (wheelPosted schedule price second) (pos 0) (pos 0)
 
 -- stage 3; `postedCents` is the requirement that the record holds at stage 2, `dayAhead` the price that it keeps
 unfoldable pub finishedRequirement : ℕ → Bool → ℕ → ℤ → ℤ → ℕ → ℤ → ℤ → ℤ
@@ -60,4 +60,5 @@ finishedRequirement kind exempt schedule dayAhead postedCents actual price secon
     byKind kind (unlessExempt exempt (importFinished schedule dayAhead actual price)) (exportFinished postedCents schedule actual price)
     (hourAheadFinished actual price)
     (wheelFinished postedCents schedule actual price second)
+    (hourAheadFinished actual price)
     (pos 0)

@@ -1,4 +1,4 @@
-// The requirement of a transaction once it is posted, finished and billed, for kinds 1 to 4.
+// The requirement of a transaction once it is posted, finished and billed, by kind.
 mod stages;
 
 pub use stages::billed;

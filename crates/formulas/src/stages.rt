@@ -132,9 +132,10 @@ fn posted_requirement(
     match kind {
         Kind::IMPORT => unless_exempt(exempt, import_posted(schedule, differential)),
         Kind::EXPORT => export_posted(schedule, price, differential),
-        // It is never posted: its row refuses first.
+        // Neither this nor a quarter-hour export is ever posted: its row refuses first.
         Kind::HOUR_AHEAD_EXPORT => 0,
         Kind::WHEEL => wheel_posted(schedule, price, second),
+        Kind::QUARTER_HOUR_EXPORT => 0,
         _ => 0,
     }
 }
@@ -157,13 +158,14 @@ fn finished_requirement(
         Kind::EXPORT => export_finished(posted_cents, schedule, actual, price),
         Kind::HOUR_AHEAD_EXPORT => hour_ahead_finished(actual, price),
         Kind::WHEEL => wheel_finished(posted_cents, schedule, actual, price, second),
+        Kind::QUARTER_HOUR_EXPORT => hour_ahead_finished(actual, price),
         _ => 0,
     }
 }
 
 // ---- the entries
 
-// Stage 2: the requirement of a posted schedule. Kinds 1 to 3 use the first price.
+// Stage 2: the requirement of a posted schedule. All kinds but a wheel use the first price.
 pub fn posted(
     kind: u64,
     differential: u64,

@@ -58,6 +58,7 @@ module _ (k : Key) (h : keyFits k ≡ true) where
   path-most =
       let below : between 1 999 (k .path) ≡ true → k .path ≤ 999 = λ e. leb-true (k .path) 999 (and-right (leb 1 (k .path)) (leb (k .path) 999) e) in
       by-rules (k .kind) (λ (rules : Rules). isPath rules (k .path) ≡ true → k .path ≤ 999) key-kind (λ e. below) (λ e. below) (λ e. below) (λ e. below)
+      (λ e. below)
 
   pub key-bounds : KeyBounds k
   key-bounds =

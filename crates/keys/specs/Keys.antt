@@ -20,6 +20,6 @@ keyFits k = isKind (k .kind) && isPath (rulesOf (k .kind)) (k .path) && isHour (
 
 -- ---- the rows of the table of refusals that concern a key
 
--- 2 'kind not 1 to 4', 3 'path out of range', 4 'hour out of range'
+-- 2 'kind not 1 to 4' (02, order 3: 'kinds run to 5'), 3 'path out of range', 4 'hour out of range'
 unfoldable pub keyRows : Key → List Row
 keyRows k = kindRow (k .kind) ∷ row 3 (not (isPath (rulesOf (k .kind)) (k .path))) ∷ row 4 (not (isHour (k .hour))) ∷ []

@@ -43,6 +43,8 @@ pub struct Rules {
     pub posted: u64,
     pub finished: u64,
     pub billed: u64,
+    // A bid has four interval curves: it is pending at requirement 0 until its hour is closed, and its record keeps four MWh sums.
+    pub intervals: bool,
 }
 
 pub struct Kind {
@@ -57,8 +59,10 @@ impl Kind {
     pub const HOUR_AHEAD_EXPORT: u64 = 3;
 
     pub const WHEEL: u64 = 4;
+    // Hour-Ahead, with four interval curves.
+    pub const QUARTER_HOUR_EXPORT: u64 = 5;
 
-    pub const LAST: u64 = 4;
+    pub const LAST: u64 = 5;
 
     pub const MAX_PATH: u64 = 999;
     // A curve's largest point counts, so its limit is a point's.
@@ -88,6 +92,7 @@ impl Kind {
                 posted: Stage::BID,
                 finished: Stage::POSTED,
                 billed: Stage::FINISHED,
+                intervals: false,
             },
             Kind::EXPORT => Rules {
                 paths: Kind::MAX_PATH,
@@ -101,6 +106,7 @@ impl Kind {
                 posted: Stage::BID,
                 finished: Stage::POSTED,
                 billed: Stage::FINISHED,
+                intervals: false,
             },
             Kind::HOUR_AHEAD_EXPORT => Rules {
                 paths: Kind::MAX_PATH,
@@ -114,6 +120,7 @@ impl Kind {
                 posted: Rules::NEVER,
                 finished: Stage::BID,
                 billed: Stage::FINISHED,
+                intervals: false,
             },
             Kind::WHEEL => Rules {
                 paths: Kind::MAX_PATH,
@@ -127,6 +134,21 @@ impl Kind {
                 posted: Stage::BID,
                 finished: Stage::POSTED,
                 billed: Stage::FINISHED,
+                intervals: false,
+            },
+            Kind::QUARTER_HOUR_EXPORT => Rules {
+                paths: Kind::MAX_PATH,
+                adds: true,
+                mwh: 0,
+                cents: Amount::MAX_BID,
+                differential: 0,
+                exempts: false,
+                prices: 1,
+                dayahead: false,
+                posted: Rules::NEVER,
+                finished: Stage::POSTED,
+                billed: Stage::FINISHED,
+                intervals: true,
             },
             _ => Rules {
                 paths: 0,
@@ -140,6 +162,7 @@ impl Kind {
                 posted: Rules::NEVER,
                 finished: Rules::NEVER,
                 billed: Rules::NEVER,
+                intervals: false,
             },
         }
     }

@@ -3,27 +3,30 @@
 use mathlib.Core.Path.{_≡_, refl, subst}
 use mathlib.Core.Bool.{Bool, true, false, cond, _&&_, _||_}
 use mathlib.Core.List.{List}
-use Prim.Native.Nat.{ℕ}
+use Prim.Native.Nat.{ℕ, _≤_}
 use lib.Dec.{leb, eqb}
-use lib.IntN.{ℤ}
+use lib.IntN.{ℤ, pos}
 use borrow.Author.Tests.{eqb-true, not-false}
 use Rattle.amounts.specs.Limits.{isPrice, isNil, isBill, isSupport}
 use Rattle.refusals.specs.Refusals.{None, accept}
 use Rattle.refusals.proofs.Laws.{and-left, and-both, judge-accept}
 use Rattle.kinds.specs.Kinds.{bidStage, postedStage, finishedStage, billedStage, never as unposted, hasStage, bidMwhFits, differentialFits, pendingFits, rulesOf}
 use Rattle.refusals.specs.declared.Bid.{Bid}
-use Rattle.bids.proofs.Curves.{bid-bounded, mwh-bounded, fit-bid}
+use Rattle.bids.proofs.Curves.{bid-bounded, mwh-bounded, fit-bid, one-curve}
+use Rattle.intervals.specs.Intervals.{intervalsOf}
+use Rattle.intervals.proofs.Laws.{curves-kind, curves-fit}
+use Rattle.closings.proofs.Laws.{close-fits}
 use Rattle.formulas.proofs.StageLaws.{posted-bounded, finished-bounded}
 use Rattle.keys.specs.declared.Key.{Key}
 use Rattle.keys.specs.Keys.{keyFits}
 use Rattle.records.specs.declared.types.Record.{Record}
-use Rattle.records.specs.Records.{isFree, implies, requirementFits, okRecord}
-use Rattle.messages.specs.Plan.{Message, Opening, Posting, Finishing, Deed, Open, Revise, Withdraw, Post, Finish, Bill, Pay, Support, Add, Rebid, Advance, Remove, Keyed, SetSupport, openedRecord, postedRecord, laterRecord, bidFor, postedFor, finishedFor, keyOf, opens, deedFor, planRows, plan}
+use Rattle.records.specs.Records.{pendingRecord, isFree, implies, requirementFits, okRecord}
+use Rattle.messages.specs.Plan.{Message, Opening, Posting, Finishing, Curves, Deed, Open, Revise, Withdraw, Post, Finish, Bill, Pay, Support, OpenCurves, ReviseCurves, Close, Add, AddPending, Rebid, Advance, Remove, Keyed, SetSupport, CloseHour, openedRecord, postedRecord, laterRecord, bidFor, postedFor, finishedFor, intervalsFor, keyOf, opens, deedFor, planRows, plan}
 use Rattle.keys.proofs.Laws.{key-kind}
-use Rattle.records.proofs.Made.{bid-ok, advanced-ok}
+use Rattle.records.proofs.Made.{bid-ok, pending-ok, advanced-ok}
 use Rattle.messages.proofs.Stages.{finished-next, billed-next}
-use Rattle.messages.proofs.Passed.{BidPassed, Stands, PostPassed, FinishPassed, open-passed, revise-passed, stage-passed, post-passed, finish-passed, bill-passed}
-use Rattle.messages.proofs.Formulas.{bid-passed-is, posted-passed-is, finished-passed-is}
+use Rattle.messages.proofs.Passed.{BidPassed, Stands, PostPassed, FinishPassed, open-passed, revise-passed, stage-passed, post-passed, finish-passed, bill-passed, CurvesPassed, open-curves-passed, revise-curves-passed}
+use Rattle.messages.proofs.Formulas.{bid-passed-is, posted-passed-is, finished-passed-is, intervals-passed-is}
 pub use Rattle.messages.proofs.Tables.{plan-rows-numbered}
 pub use Rattle.messages.proofs.Passed.{Under, under-blank, under-at}
 
@@ -59,12 +62,24 @@ pub record Dropped (old : Record) (m : Message) (k : Key) : Type 0 where
   pub used : isFree old ≡ false
   pub own : k ≡ keyOf m
 
+-- 02, order 3: a bid that is pending has requirement 0, and only a kind of four curves is
+pub record AddedPending (old : Record) (m : Message) (r : Record) : Type 0 where
+  pub added : Added old m r
+  pub four : rulesOf (r .key .kind) .intervals ≡ true
+  pub nil : r .requirement ≡ pos 0
+
+pub record Closes (m : Message) (hour : ℕ) : Type 0 where
+  pub is : m ≡ Close (record { hour = hour })
+  pub hour-high : hour ≤ 999999
+
 abbrev pub Fits : Record → Message → Deed → Type 0
 Fits old m (Keyed (Add r)) = Added old m r
+Fits old m (Keyed (AddPending r)) = AddedPending old m r
 Fits old m (Keyed (Rebid z r)) = Redone old m z r
 Fits old m (Keyed (Advance r)) = Moved old m r
 Fits old m (Keyed (Remove k)) = Dropped old m k
 Fits old m (SetSupport z) = isSupport z ≡ true
+Fits old m (CloseHour hour) = Closes m hour
 
 -- ---- each record that a message leaves keeps every clause
 
@@ -77,14 +92,15 @@ exempt-only true false = refl
 exempt-only false b = refl
 
 opened-fine : (o : Opening) (bid : Bid) → keyFits (o .key) ≡ true → bidMwhFits (rulesOf (o .key .kind)) (bid .mwh) ≡ true
-    → differentialFits (rulesOf (o .key .kind)) (o .differential) ≡ true → pendingFits (rulesOf (o .key .kind)) (bid .cents) ≡ true → Fine (o .key) (openedRecord o bid)
+    → differentialFits (rulesOf (o .key .kind)) (o .differential) ≡ true → pendingFits (rulesOf (o .key .kind)) (bid .cents) ≡ true
+    → rulesOf (o .key .kind) .intervals ≡ false → Fine (o .key) (openedRecord o bid)
 unfolding isFree
-opened-fine o bid key mwh differential pending =
+opened-fine o bid key mwh differential pending one =
     let marks = rulesOf (o .key .kind) .exempts in
     record {
       own = refl;
       used = refl;
-      ok = bid-ok (o .key) (bid .mwh) (o .differential) (o .exempt && marks) (bid .cents) key mwh differential (exempt-only (o .exempt) marks) pending;
+      ok = bid-ok (o .key) (bid .mwh) (o .differential) (o .exempt && marks) (bid .cents) key mwh differential (exempt-only (o .exempt) marks) pending one;
     }
 
 bid-fine : (o : Opening) (ms : List ℕ) (ps : List ℤ) → BidPassed o ms ps → Fine (o .key) (openedRecord o (bidFor o ms ps))
@@ -93,7 +109,19 @@ bid-fine o ms ps h =
     rw (bid-passed-is o ms ps h)
     (opened-fine o _ (h .key) (mwh-bounded (o .key .kind) ms ps (o .differential) (h .rows))
     (fit-bid (o .key .kind) ms ps (o .differential) (h .rows .1) .1)
-    (bid-bounded (o .key .kind) ms ps (o .differential) (o .exempt) (h .rows)))
+    (bid-bounded (o .key .kind) ms ps (o .differential) (o .exempt) (h .rows))
+    (one-curve (o .key .kind) ms ps (o .differential) (h .rows .1)))
+
+-- 02, order 3
+curves-fine : (c : Curves) (ms : List ℕ) (ps : List ℤ) → CurvesPassed c ms ps → Fine (c .key) (pendingRecord (c .key) (intervalsFor c ms ps))
+unfolding None isFree
+curves-fine c ms ps h =
+    rw (intervals-passed-is c ms ps h)
+    (record {
+      own = refl;
+      used = refl;
+      ok = pending-ok (c .key) (intervalsOf (c .counts) ms) (h .key) (curves-kind (c .key .kind) (c .counts) ms ps (h .rows .1)) (curves-fit (c .key .kind) (c .counts) ms ps (h .rows .1));
+    })
 
 -- 'Post keeps the schedule and, for kind 1, the first price'
 kept-price : (t late : Bool) (new old : ℤ) → isPrice new ≡ true → (isPrice old && (t && late || isNil old)) ≡ true
@@ -114,7 +142,8 @@ posted-fine old p h =
           (rw (h .schedule, h .posts))
           (kept-price keeps (leb postedStage (old .stage)) (p .price) (old .price) (h .price) (c .dayAhead))
           (rw (posted-passed-is old p h)
-          (and-true _ (posted-bounded (old .key .kind) (old .differential) (old .exempt) (p .schedule) (p .price) (p .second) (h .rows) (h .mwh))));
+          (and-true _ (posted-bounded (old .key .kind) (old .differential) (old .exempt) (p .schedule) (p .price) (p .second) (h .rows) (h .mwh))))
+          refl;
     }
 
 -- a later stage keeps the schedule, and the price that only a posted import has
@@ -137,7 +166,7 @@ later-fine k old stage cents s next first late used requirement =
     record {
       own = s .own;
       used = used;
-      ok = advanced-ok old stage (old .schedule) (old .price) cents c next (rw first schedule) (rw late price) requirement;
+      ok = advanced-ok old stage (old .schedule) (old .price) cents c next (rw first schedule) (rw late price) requirement first;
     }
 
 finished-fine : (old : Record) (f : Finishing) → FinishPassed old f → Fine (f .key) (laterRecord old finishedStage (finishedFor old f))
@@ -173,6 +202,17 @@ deed-fits old (Bill b) ms ps u h =
 deed-fits old (Pay k) ms ps u h =
     record { later = refl; used = stage-passed k old (eqb (old .stage) billedStage) u h .stands .used; own = refl }
 deed-fits old (Support s) ms ps u h = not-false (isSupport (s .cents)) (h .0)
+deed-fits old (OpenCurves c) ms ps u h =
+    let a = open-curves-passed old c ms ps h in
+    record {
+      added = record { begins = refl; free = a .1; fine = curves-fine c ms ps (a .0); bid = refl };
+      four = curves-kind (c .key .kind) (c .counts) ms ps (a .0 .rows .1);
+      nil = refl;
+    }
+deed-fits old (ReviseCurves c) ms ps u h =
+    let a = revise-curves-passed old c ms ps u h in
+    record { later = refl; used = a .1 .stands .used; was = refl; stage = eqb-true (old .stage) bidStage (a .1 .stage); fine = curves-fine c ms ps (a .0); bid = refl }
+deed-fits old (Close c) ms ps u h = record { is = refl; hour-high = close-fits (c .hour) ms ps h .hour-high }
 
 pub fits : (old : Record) (m : Message) (ms : List ℕ) (ps : List ℤ) (d : Deed) → Under (keyOf m) old → plan old m ms ps ≡ accept d → Fits old m d
 unfolding plan

@@ -17,9 +17,11 @@ use Rattle.kinds.specs.Kinds.{kindRow}
 use Rattle.refusals.specs.Answers.{bidOf, bidAnswer}
 use Rattle.bids.specs.Entries.{bidVerdict}
 use Rattle.formulas.specs.Entries.{postedVerdict, finishedVerdict}
+use Rattle.intervals.specs.Intervals.{intervalsOf}
+use Rattle.intervals.proofs.Laws.{intervals-in}
 use Rattle.records.specs.declared.types.Record.{Record}
-use Rattle.messages.specs.Plan.{Opening, Posting, Finishing, Open, Revise, Post, Finish, bidFor, postedFor, finishedFor, planRows}
-use Rattle.messages.proofs.Passed.{Under, BidPassed, open-passed, revise-passed, PostPassed, post-passed, FinishPassed, finish-passed}
+use Rattle.messages.specs.Plan.{Opening, Posting, Finishing, Curves, Open, Revise, Post, Finish, OpenCurves, ReviseCurves, bidFor, postedFor, finishedFor, intervalsFor, planRows}
+use Rattle.messages.proofs.Passed.{Under, BidPassed, open-passed, revise-passed, PostPassed, post-passed, FinishPassed, finish-passed, CurvesPassed, open-curves-passed, revise-curves-passed}
 
 -- bid MWh and requirement by 01's formulas
 abbrev pub bidOf01 : Opening → List ℕ → List ℤ → Bid
@@ -62,3 +64,14 @@ finished-passed-is old f h =
 pub finished-is : (old : Record) (f : Finishing) (ms : List ℕ) (ps : List ℤ) → Under (f .key) old → None (planRows old (Finish f) ms ps)
     → finishedFor old f ≡ finishedRequirement (old .key .kind) (old .exempt) (old .schedule) (old .price) (old .requirement) (f .actual) (f .price) (f .second)
 finished-is old f ms ps u h = finished-passed-is old f (finish-passed old f ms ps u h)
+
+-- 02, order 3: the four sums of the curves
+pub intervals-passed-is : (c : Curves) (ms : List ℕ) (ps : List ℤ) → CurvesPassed c ms ps → intervalsFor c ms ps ≡ intervalsOf (c .counts) ms
+unfolding intervalsFor
+intervals-passed-is c ms ps h = intervals-in (c .key .kind) (c .counts) ms ps (h .rows)
+
+pub intervals-is : (old : Record) (c : Curves) (ms : List ℕ) (ps : List ℤ) → None (planRows old (OpenCurves c) ms ps) → intervalsFor c ms ps ≡ intervalsOf (c .counts) ms
+intervals-is old c ms ps h = intervals-passed-is c ms ps (open-curves-passed old c ms ps h .0)
+
+pub revised-intervals-is : (old : Record) (c : Curves) (ms : List ℕ) (ps : List ℤ) → Under (c .key) old → None (planRows old (ReviseCurves c) ms ps) → intervalsFor c ms ps ≡ intervalsOf (c .counts) ms
+revised-intervals-is old c ms ps u h = intervals-passed-is c ms ps (revise-curves-passed old c ms ps u h .0)

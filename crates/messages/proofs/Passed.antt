@@ -15,11 +15,12 @@ use Rattle.refusals.proofs.Laws.{never, and-left, and-both, none-split}
 use Rattle.kinds.specs.Kinds.{isKind, kindRow, isPath, bidMwhFits, pricesFit, hasStage, rulesOf, bidStage, postedStage, never as unposted}
 use Rattle.bids.specs.Rows.{bidRows}
 use Rattle.deliveries.specs.Rows.{deliveryRows, postedRows, finishedRows, billRows}
+use Rattle.intervals.specs.Intervals.{curvesRows}
 use Rattle.keys.specs.declared.Key.{Key}
 use Rattle.keys.specs.Keys.{isHour, keyFits, keyRows}
 use Rattle.records.specs.declared.types.Record.{Record}
 use Rattle.records.specs.Records.{blank, isFree, at, okPlace, implies, okRecord}
-use Rattle.messages.specs.Plan.{Opening, Posting, Finishing, Open, Revise, Post, Finish, stageRows, planRows}
+use Rattle.messages.specs.Plan.{Opening, Posting, Finishing, Curves, Open, Revise, Post, Finish, OpenCurves, ReviseCurves, stageRows, planRows}
 use Rattle.kinds.proofs.Fits.{prices as priced}
 use Rattle.records.proofs.Clauses.{Clauses, clauses}
 use Rattle.keys.proofs.Laws.{key-kind}
@@ -100,6 +101,34 @@ revise-passed old o ms ps u h =
     let b = none-split bid stage (a .1) in
     let passed = bid-rows o ms ps (a .0) (b .0) in
     (passed, stage-rows (o .key) old (eqb (old .stage) bidStage) (passed .key) u (b .1))
+
+-- 02, order 3: four curves
+pub record CurvesPassed (c : Curves) (ms : List ℕ) (ps : List ℤ) : Type 0 where
+  pub key : keyFits (c .key) ≡ true
+  pub rows : None (kindRow (c .key .kind) ∷ curvesRows (c .key .kind) (c .counts) ms ps)
+
+curves-passed : (c : Curves) (ms : List ℕ) (ps : List ℤ) → None (keyRows (c .key)) → None (curvesRows (c .key .kind) (c .counts) ms ps) → CurvesPassed c ms ps
+unfolding None
+curves-passed c ms ps h b = let key = key-passed (c .key) h in record { key = key; rows = (ap not (key-kind (c .key) key), b) }
+
+pub open-curves-passed : (old : Record) (c : Curves) (ms : List ℕ) (ps : List ℤ) → None (planRows old (OpenCurves c) ms ps) → CurvesPassed c ms ps × (isFree old ≡ true)
+unfolding None
+open-curves-passed old c ms ps h =
+    let curves = curvesRows (c .key .kind) (c .counts) ms ps in
+    let free = row 10 (not (isFree old)) ∷ [] in
+    let a = none-split (keyRows (c .key)) (curves ++ free) h in
+    let b = none-split curves free (a .1) in
+    (curves-passed c ms ps (a .0) (b .0), not-false (isFree old) (b .1 .0))
+
+pub revise-curves-passed : (old : Record) (c : Curves) (ms : List ℕ) (ps : List ℤ) → Under (c .key) old → None (planRows old (ReviseCurves c) ms ps)
+    → CurvesPassed c ms ps × StagePassed (c .key) old (eqb (old .stage) bidStage)
+revise-curves-passed old c ms ps u h =
+    let curves = curvesRows (c .key .kind) (c .counts) ms ps in
+    let stage = stageRows old (eqb (old .stage) bidStage) in
+    let a = none-split (keyRows (c .key)) (curves ++ stage) h in
+    let b = none-split curves stage (a .1) in
+    let passed = curves-passed c ms ps (a .0) (b .0) in
+    (passed, stage-rows (c .key) old (eqb (old .stage) bidStage) (passed .key) u (b .1))
 
 pub record PostPassed (old : Record) (p : Posting) : Type 0 where
   pub stands : Stands (p .key) old

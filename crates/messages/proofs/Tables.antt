@@ -17,11 +17,14 @@ use Rattle.refusals.specs.Answers.{bidRefusalOf, bidAnswer}
 use Rattle.bids.specs.Entries.{bidVerdict}
 use Rattle.bids.proofs.Curves.{bid-rows-numbered}
 use Rattle.deliveries.proofs.Numbered.{delivery-rows-numbered, bill-rows-numbered}
+use Rattle.intervals.specs.Intervals.{curvesRows, curvesVerdict, curvesAnswer, curvesRefusalOf}
+use Rattle.intervals.proofs.Laws.{curves-rows-numbered, curves-refusal-is}
+use Rattle.closings.proofs.Laws.{close-rows-numbered}
 use Rattle.keys.specs.declared.Key.{Key}
 use Rattle.keys.specs.Keys.{keyRows}
 use Rattle.records.specs.declared.types.Record.{Record}
 use Rattle.records.specs.Records.{isFree}
-use Rattle.messages.specs.Plan.{Message, Opening, Open, Revise, Withdraw, Post, Finish, Bill, Pay, Support, stageRows, planRows}
+use Rattle.messages.specs.Plan.{Message, Opening, Curves, Open, Revise, Withdraw, Post, Finish, Bill, Pay, Support, OpenCurves, ReviseCurves, Close, stageRows, planRows}
 
 -- ---- no row has the number 0
 key-rows-numbered : (k : Key) → numbered (keyRows k) ≡ true
@@ -63,6 +66,13 @@ plan-rows-numbered old (Bill b) ms ps =
     (numbered-append (billRows (b .cents)) _ (bill-rows-numbered (b .cents)) (stage-rows-numbered old (eqb (old .stage) (rulesOf (b .key .kind) .billed))))
 plan-rows-numbered old (Pay k) ms ps = numbered-append (keyRows k) _ (key-rows-numbered k) (stage-rows-numbered old (eqb (old .stage) billedStage))
 plan-rows-numbered old (Support s) ms ps = one-numbered 9 _ refl
+plan-rows-numbered old (OpenCurves c) ms ps =
+    numbered-append (keyRows (c .key)) _ (key-rows-numbered (c .key))
+    (numbered-append (curvesRows (c .key .kind) (c .counts) ms ps) _ (curves-rows-numbered (c .key .kind) (c .counts) ms ps) (one-numbered 10 (not (isFree old)) refl))
+plan-rows-numbered old (ReviseCurves c) ms ps =
+    numbered-append (keyRows (c .key)) _ (key-rows-numbered (c .key))
+    (numbered-append (curvesRows (c .key .kind) (c .counts) ms ps) _ (curves-rows-numbered (c .key .kind) (c .counts) ms ps) (stage-rows-numbered old (eqb (old .stage) bidStage)))
+plan-rows-numbered old (Close c) ms ps = close-rows-numbered (c .hour) ms ps
 
 -- ---- one table below another, by what each gives
 pub key-above : (k : Key) (rest : List Row) → first (keyRows k ++ rest) ≡ orElse (first (keyRows k)) (first rest)
@@ -118,3 +128,22 @@ open-table old o ms ps =
 
 pub revise-table : (old : Record) (o : Opening) (ms : List ℕ) (ps : List ℤ) → orElse (first (keyRows (o .key))) (orElse (bidNumber o ms ps) (first (stageRows old (eqb (old .stage) bidStage)))) ≡ first (planRows old (Revise o) ms ps)
 revise-table old o ms ps = sym (bid-above o ms ps (stageRows old (eqb (old .stage) bidStage)))
+
+-- ---- four curves (02, order 3)
+abbrev pub curvesNumber : Curves → List ℕ → List ℤ → ℕ
+curvesNumber c ms ps = curvesRefusalOf (curvesAnswer (curvesVerdict (c .key .kind) (c .counts) ms ps))
+
+curves-above : (c : Curves) (ms : List ℕ) (ps : List ℤ) (rest : List Row) → first (keyRows (c .key) ++ (curvesRows (c .key .kind) (c .counts) ms ps ++ rest)) ≡ orElse (first (keyRows (c .key))) (orElse (curvesNumber c ms ps) (first rest))
+curves-above c ms ps rest =
+    let rows = curvesRows (c .key .kind) (c .counts) ms ps in
+    key-above (c .key) (rows ++ rest)
+    ∙ ap (orElse (first (keyRows (c .key)))) (first-append rows rest (curves-rows-numbered (c .key .kind) (c .counts) ms ps))
+    ∙ sym (kind-once (c .key) rows (first rest))
+    ∙ ap (λ (n : ℕ). orElse (first (keyRows (c .key))) (orElse n (first rest))) (sym (curves-refusal-is (c .key .kind) (c .counts) ms ps))
+
+pub open-curves-table : (old : Record) (c : Curves) (ms : List ℕ) (ps : List ℤ) → orElse (first (keyRows (c .key))) (orElse (curvesNumber c ms ps) (cond (not (isFree old)) 10 0)) ≡ first (planRows old (OpenCurves c) ms ps)
+open-curves-table old c ms ps =
+    let free = row 10 (not (isFree old)) ∷ [] in sym (curves-above c ms ps free ∙ ap (λ (n : ℕ). orElse (first (keyRows (c .key))) (orElse (curvesNumber c ms ps) n)) (last-row 10 (not (isFree old))))
+
+pub revise-curves-table : (old : Record) (c : Curves) (ms : List ℕ) (ps : List ℤ) → orElse (first (keyRows (c .key))) (orElse (curvesNumber c ms ps) (first (stageRows old (eqb (old .stage) bidStage)))) ≡ first (planRows old (ReviseCurves c) ms ps)
+revise-curves-table old c ms ps = sym (curves-above c ms ps (stageRows old (eqb (old .stage) bidStage)))

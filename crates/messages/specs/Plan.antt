@@ -1,4 +1,4 @@
--- Document 01, refusals 2 to 13 and what each message asks for. They see the message and the record under its key, and nothing else of the book.
+-- Document 01 and 02, order 3: refusals 2 to 13 and what each message asks for. They see the message and the record under its key, and nothing else of the book.
 -- `old` is that record, blank where the key is not open.
 -- Assumes nothing.
 use mathlib.Core.Bool.{Bool, true, false, _&&_, not, cond}
@@ -16,21 +16,26 @@ use Rattle.refusals.specs.Figures.{figure, centsOf}
 use Rattle.refusals.specs.Answers.{bidAnswer, bidOf}
 use Rattle.bids.specs.Entries.{bidVerdict}
 use Rattle.formulas.specs.Entries.{postedVerdict, finishedVerdict}
+use Rattle.intervals.specs.declared.types.Intervals.{Intervals}
+use Rattle.intervals.specs.Intervals.{curvesRows, curvesVerdict, curvesAnswer, intervalsIn}
+use Rattle.closings.specs.Closings.{closeRows}
 pub use Rattle.messages.specs.declared.types.Message.{Message}
 pub use Rattle.messages.specs.declared.types.Opening.{Opening}
 pub use Rattle.messages.specs.declared.types.Posting.{Posting}
 pub use Rattle.messages.specs.declared.types.Finishing.{Finishing}
+pub use Rattle.messages.specs.declared.types.Curves.{Curves}
+pub use Rattle.messages.specs.declared.types.Closing.{Closing}
 pub use Rattle.messages.specs.declared.types.Change.{Change}
 pub use Rattle.messages.specs.declared.types.Deed.{Deed}
 pub use Rattle.messages.specs.declared.types.Planned.{Planned}
-pub use Rattle.messages.specs.declared.types.Message.the-variants.{Open, Revise, Withdraw, Post, Finish, Bill, Pay, Support}
-pub use Rattle.messages.specs.declared.types.Change.the-variants.{Add, Rebid, Advance, Remove}
-pub use Rattle.messages.specs.declared.types.Deed.the-variants.{Keyed, SetSupport}
+pub use Rattle.messages.specs.declared.types.Message.the-variants.{Open, Revise, Withdraw, Post, Finish, Bill, Pay, Support, OpenCurves, ReviseCurves, Close}
+pub use Rattle.messages.specs.declared.types.Change.the-variants.{Add, AddPending, Rebid, Advance, Remove}
+pub use Rattle.messages.specs.declared.types.Deed.the-variants.{Keyed, SetSupport, CloseHour}
 use Rattle.messages.specs.declared.types.Planned.the-variants.{Refused, Asks}
 use Rattle.keys.specs.declared.Key.{Key}
 use Rattle.keys.specs.Keys.{keyRows}
 use Rattle.records.specs.declared.types.Record.{Record}
-use Rattle.records.specs.Records.{blank, bidRecord, advanced, isFree}
+use Rattle.records.specs.Records.{blank, bidRecord, pendingRecord, advanced, isFree}
 
 -- ---- the record of each stage
 
@@ -58,9 +63,13 @@ unfoldable pub finishedFor : Record → Finishing → ℤ
 finishedFor r f =
     centsOf (figure (finishedVerdict (r .key .kind) (r .exempt) (r .schedule) (r .price) (r .requirement) (f .actual) (f .price) (f .second)))
 
+-- 02, order 3: 'the record keeps its four MWh sums'
+unfoldable pub intervalsFor : Curves → List ℕ → List ℤ → Intervals
+intervalsFor c mwhs prices = intervalsIn (curvesAnswer (curvesVerdict (c .key .kind) (c .counts) mwhs prices))
+
 -- ---- what a message asks for
 
--- the transaction that a message names; a support change names none
+-- the transaction that a message names; a support change names none, and a close an hour
 abbrev pub keyOf : Message → Key
 keyOf (Open o) = o .key
 keyOf (Revise o) = o .key
@@ -70,6 +79,9 @@ keyOf (Finish f) = f .key
 keyOf (Bill b) = b .key
 keyOf (Pay k) = k
 keyOf (Support s) = blank .key
+keyOf (OpenCurves c) = c .key
+keyOf (ReviseCurves c) = c .key
+keyOf (Close c) = blank .key
 
 -- whether it begins a transaction
 abbrev pub opens : Message → Bool
@@ -81,6 +93,9 @@ opens (Finish f) = false
 opens (Bill b) = false
 opens (Pay k) = false
 opens (Support s) = false
+opens (OpenCurves c) = true
+opens (ReviseCurves c) = false
+opens (Close c) = false
 
 abbrev pub deedFor : Record → Message → List ℕ → List ℤ → Deed
 deedFor old (Open o) mwhs prices = Keyed (Add (openedRecord o (bidFor o mwhs prices)))
@@ -91,6 +106,9 @@ deedFor old (Finish f) mwhs prices = Keyed (Advance (laterRecord old finishedSta
 deedFor old (Bill b) mwhs prices = Keyed (Advance (laterRecord old billedStage (b .cents)))
 deedFor old (Pay k) mwhs prices = Keyed (Remove k)
 deedFor old (Support s) mwhs prices = SetSupport (s .cents)
+deedFor old (OpenCurves c) mwhs prices = Keyed (AddPending (pendingRecord (c .key) (intervalsFor c mwhs prices)))
+deedFor old (ReviseCurves c) mwhs prices = Keyed (Rebid (old .requirement) (pendingRecord (c .key) (intervalsFor c mwhs prices)))
+deedFor old (Close c) paths prices = CloseHour (c .hour)
 
 -- ---- refusals 2 to 13: 'only those that concern the message', in the paper's order
 
@@ -111,6 +129,11 @@ planRows old (Finish f) mwhs prices =
 planRows old (Bill b) mwhs prices = keyRows (b .key) ++ (billRows (b .cents) ++ stageRows old (eqb (old .stage) (rulesOf (b .key .kind) .billed)))
 planRows old (Pay k) mwhs prices = keyRows k ++ stageRows old (eqb (old .stage) billedStage)
 planRows old (Support s) mwhs prices = row 9 (not (isSupport (s .cents))) ∷ []
+planRows old (OpenCurves c) mwhs prices =
+    keyRows (c .key) ++ (curvesRows (c .key .kind) (c .counts) mwhs prices ++ (row 10 (not (isFree old)) ∷ []))
+planRows old (ReviseCurves c) mwhs prices =
+    keyRows (c .key) ++ (curvesRows (c .key .kind) (c .counts) mwhs prices ++ stageRows old (eqb (old .stage) bidStage))
+planRows old (Close c) paths prices = closeRows (c .hour) paths prices
 
 unfoldable pub plan : Record → Message → List ℕ → List ℤ → Verdict Deed
 plan old m mwhs prices = judge (planRows old m mwhs prices) (deedFor old m mwhs prices)

@@ -1,4 +1,5 @@
-// The eight messages, and what a message asks for.
+// The eleven messages, and what a message asks for.
+use intervals::types::Counts;
 use keys::Key;
 use records::types::Record;
 
@@ -33,6 +34,17 @@ pub struct Funding {
     pub cents: i64,
 }
 
+// Open and revise of four interval curves (02, order 3); the points stand beside it in two lent lists, one interval after another.
+pub struct Curves {
+    pub key: Key,
+    pub counts: Counts,
+}
+
+// The listed paths stand beside it in the list of whole numbers, and four interval prices for each in the list of prices (02, order 3).
+pub struct Closing {
+    pub hour: u64,
+}
+
 // Each message is one case with its own set of values.
 pub enum Message {
     Open(Opening),
@@ -43,6 +55,9 @@ pub enum Message {
     Bill(Billing),
     Pay(Key),
     Support(Funding),
+    OpenCurves(Curves),
+    ReviseCurves(Curves),
+    Close(Closing),
 }
 
 // What a message on a transaction does to the places.
@@ -52,12 +67,16 @@ pub enum Change {
     Rebid(i64, Record),
     Advance(Record),
     Remove(Key),
+    // A bid that is pending until its hour is closed: its credit is not checked.
+    AddPending(Record),
 }
 
 // What an accepted message does to the book.
 pub enum Deed {
     Keyed(Change),
     SetSupport(i64),
+    // The pending bids of an hour, as one batch.
+    CloseHour(u64),
 }
 
 // Refusals 2 to 13 of a message, or what it asks for.

@@ -1,11 +1,13 @@
-// What each later message, and a support change, asks of the record under its key, or refusals 2 to 13. `old` is that record, blank where the key is not open.
+// What each later message, a support change and a close ask of the record under its key, or refusals 2 to 13. `old` is that record, blank where the key is not open.
 mod bills;
+mod closes;
 mod finishes;
 mod frees;
 mod posts;
 mod supports;
 
 pub use bills::bill;
+pub use closes::close;
 pub use finishes::finish;
 pub use frees::pay;
 pub use frees::withdraw;

@@ -1,4 +1,4 @@
-// What an open and a revise ask of the record under their key, or refusals 2 to 12. `old` is that record, blank where the key is not open.
+// What an open and a revise, of one curve or of four, ask of the record under their key, or refusals 2 to 12. `old` is that record, blank where the key is not open.
 ghost use mathlib.Core.Path.{_≡_};
 ghost use Rattle.messages.specs.Plan.{openedRecord, plan, planned};
 use kinds::Kind;
@@ -6,6 +6,7 @@ use kinds::Stage;
 use messages::answer;
 use messages::stage_refusal;
 use messages::types::Change;
+use messages::types::Curves;
 use messages::types::Deed;
 use messages::types::Message;
 use messages::types::Opening;
@@ -69,5 +70,37 @@ pub fn revise(opening: Opening, old: Record, mwh: &[u64], prices: &[i64]) -> Pla
     answer(
         number,
         Deed::Keyed(Change::Rebid(old.requirement, opened_record(opening, bid.bid()))),
+    )
+}
+
+// Of four interval curves (02, order 3).
+pub fn open_curves(curves: Curves, old: Record, mwh: &[u64], prices: &[i64]) -> Planned
+    ensures { λ r. ⌜ r ≡ planned (plan old (Message.OpenCurves curves) (now (mwh .entry)) (now (prices .entry))) ⌝ }
+{
+    let sums = intervals::curves(curves.key.kind, curves.counts, mwh, prices);
+    let number = or_else(
+        curves.key.refusal(),
+        or_else(sums.refusal(), pick(!old.is_free(), 10, 0)),
+    );
+    answer(
+        number,
+        Deed::Keyed(Change::AddPending(Record::pending(curves.key, sums.intervals()))),
+    )
+}
+
+pub fn revise_curves(curves: Curves, old: Record, mwh: &[u64], prices: &[i64]) -> Planned
+    ensures { λ r. ⌜ r ≡ planned (plan old (Message.ReviseCurves curves) (now (mwh .entry)) (now (prices .entry))) ⌝ }
+{
+    let sums = intervals::curves(curves.key.kind, curves.counts, mwh, prices);
+    let number = or_else(
+        curves.key.refusal(),
+        or_else(sums.refusal(), stage_refusal(old, old.stage == Stage::BID)),
+    );
+    answer(
+        number,
+        Deed::Keyed(Change::Rebid(
+            old.requirement,
+            Record::pending(curves.key, sums.intervals()),
+        )),
     )
 }

@@ -7,7 +7,7 @@ use Rattle.refusals.proofs.Laws.{never, and-left, and-right}
 use Rattle.kinds.specs.declared.Rules.{Rules}
 use Rattle.kinds.specs.Kinds.{hasStage, bidMwhFits, differentialFits, rulesOf}
 use Rattle.keys.specs.Keys.{keyFits}
-use Rattle.records.specs.Records.{Record, implies, scheduleFits, dayAheadFits, exemptFits, requirementFits, keeps, okRecord}
+use Rattle.records.specs.Records.{Record, implies, scheduleFits, dayAheadFits, exemptFits, requirementFits, quartersFit, keeps, okRecord}
 
 -- ---- tests
 pub either : (a b : Bool) → (a || b) ≡ true → (a ≡ true) ⊎ (b ≡ true)
@@ -32,6 +32,7 @@ pub record Clauses (r : Record) : Type 0 where
   pub dayAhead : dayAheadFits (rulesOf (r .key .kind)) r ≡ true
   pub exempt : exemptFits (rulesOf (r .key .kind)) r ≡ true
   pub requirement : requirementFits (rulesOf (r .key .kind)) (r .stage) (r .requirement) ≡ true
+  pub quarters : quartersFit (rulesOf (r .key .kind)) r ≡ true
 
 module _ (r : Record) where
   abbrev own : Rules
@@ -52,17 +53,21 @@ module _ (r : Record) where
   abbrev to-exempt : Bool
   to-exempt = to-price && exemptFits own r
 
+  abbrev to-requirement : Bool
+  to-requirement = to-exempt && requirementFits own (r .stage) (r .requirement)
+
   pub clauses : okRecord r ≡ true → Clauses r
   unfolding okRecord keeps
   clauses h =
-      let h7 = and-right (keyFits (r .key)) (to-exempt && requirementFits own (r .stage) (r .requirement)) h in
+      let h8 = and-right (keyFits (r .key)) (to-requirement && quartersFit own r) h in
+      let h7 = and-left to-requirement (quartersFit own r) h8 in
       let h6 = and-left to-exempt (requirementFits own (r .stage) (r .requirement)) h7 in
       let h5 = and-left to-price (exemptFits own r) h6 in
       let h4 = and-left to-differential (dayAheadFits own r) h5 in
       let h3 = and-left to-schedule (differentialFits own (r .differential)) h4 in
       let h2 = and-left to-mwh (scheduleFits own r) h3 in
       record {
-        key = and-left (keyFits (r .key)) (to-exempt && requirementFits own (r .stage) (r .requirement)) h;
+        key = and-left (keyFits (r .key)) (to-requirement && quartersFit own r) h;
         stage = and-left (hasStage own (r .stage)) (bidMwhFits own (r .mwh)) h2;
         mwh = and-right (hasStage own (r .stage)) (bidMwhFits own (r .mwh)) h2;
         schedule = and-right to-mwh (scheduleFits own r) h3;
@@ -70,8 +75,9 @@ module _ (r : Record) where
         dayAhead = and-right to-differential (dayAheadFits own r) h5;
         exempt = and-right to-price (exemptFits own r) h6;
         requirement = and-right to-exempt (requirementFits own (r .stage) (r .requirement)) h7;
+        quarters = and-right to-requirement (quartersFit own r) h8;
       }
 
   pub sound : Clauses r → okRecord r ≡ true
   unfolding okRecord keeps
-  sound c = rw (c .key, c .stage, c .mwh, c .schedule, c .differential, c .dayAhead, c .exempt, c .requirement)
+  sound c = rw (c .key, c .stage, c .mwh, c .schedule, c .differential, c .dayAhead, c .exempt, c .requirement, c .quarters)

@@ -16,11 +16,13 @@ use Rattle.kinds.specs.Kinds.{bidStage, postedStage, finishedStage, billedStage
 use Rattle.keys.specs.declared.Key.{Key}
 use Rattle.keys.specs.Keys.{sameKey}
 use Rattle.keys.proofs.Laws.{by-test, sameKey-eq, sameKey-refl}
+use Rattle.intervals.specs.Intervals.{isNone}
+use Rattle.intervals.proofs.Laws.{none-eq}
 use Rattle.records.specs.Records.{Record, blank, isBlank, isFree, at, okRecord, okPlace}
 use Rattle.records.proofs.Clauses.{either, or-right, clauses}
 
 -- ---- a free place is zero throughout
-nil-eq : (z : ℤ) → isNil z ≡ true → z ≡ pos 0
+pub nil-eq : (z : ℤ) → isNil z ≡ true → z ≡ pos 0
 nil-eq z h = let r = range-true 0 0 z h in omega (arith, signed)
 
 module _ (r : Record) where
@@ -48,10 +50,14 @@ module _ (r : Record) where
   abbrev to-price : Bool
   to-price = to-schedule && isNil (r .price)
 
+  abbrev to-requirement : Bool
+  to-requirement = to-price && isNil (r .requirement)
+
   pub blank-eq : isBlank r ≡ true → r ≡ blank
   unfolding isBlank
   blank-eq h =
-      let h8 = and-left to-price (isNil (r .requirement)) h in
+      let h9 = and-left to-requirement (isNone (r .intervals)) h in
+      let h8 = and-left to-price (isNil (r .requirement)) h9 in
       let h7 = and-left to-schedule (isNil (r .price)) h8 in
       let h6 = and-left to-exempt (eqb (r .schedule) 0) h7 in
       let h5 = and-left to-differential (not (r .exempt)) h6 in
@@ -68,7 +74,8 @@ module _ (r : Record) where
       let exempt = not-true (r .exempt) (and-right to-differential (not (r .exempt)) h6) in
       let schedule = eqb-true (r .schedule) 0 (and-right to-exempt (eqb (r .schedule) 0) h7) in
       let price = nil-eq (r .price) (and-right to-schedule (isNil (r .price)) h8) in
-      let requirement = nil-eq (r .requirement) (and-right to-price (isNil (r .requirement)) h) in
+      let requirement = nil-eq (r .requirement) (and-right to-price (isNil (r .requirement)) h9) in
+      let intervals = none-eq (r .intervals) (and-right to-requirement (isNone (r .intervals)) h) in
       λ i. record {
         key = record { kind = kind i; path = path i; hour = hour i };
         stage = stage i;
@@ -78,6 +85,7 @@ module _ (r : Record) where
         schedule = schedule i;
         price = price i;
         requirement = requirement i;
+        intervals = intervals i;
       }
 
 pub blank-blank : isBlank blank ≡ true

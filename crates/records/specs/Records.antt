@@ -1,4 +1,4 @@
--- Document 01, 'Numbers': one record, and when it is sound.
+-- Document 01, 'Numbers', and 02, order 3: one record, and when it is sound.
 -- Assumes nothing.
 use mathlib.Core.Bool.{Bool, false, _&&_, _||_, not}
 use Prim.Native.Nat.{ℕ}
@@ -6,9 +6,11 @@ use lib.Dec.{leb, eqb}
 use lib.IntN.{ℤ, pos}
 use Rattle.amounts.specs.Limits.{isPrice, isNil, isBill, isFinished}
 use Rattle.kinds.specs.declared.Rules.{Rules}
-use Rattle.kinds.specs.Kinds.{hasStage, bidMwhFits, differentialFits, pendingFits, rulesOf, bidStage, postedStage, finishedStage, billedStage, never}
+use Rattle.kinds.specs.Kinds.{quarterHour, hasStage, bidMwhFits, differentialFits, pendingFits, rulesOf, bidStage, postedStage, finishedStage, billedStage, never}
 use Rattle.keys.specs.declared.Key.{Key}
 use Rattle.keys.specs.Keys.{sameKey, keyFits}
+use Rattle.intervals.specs.declared.types.Intervals.{Intervals}
+use Rattle.intervals.specs.Intervals.{noIntervals, intervalsFit, isNone}
 pub use Rattle.records.specs.declared.types.Record.{Record}
 
 -- 01: 'a free place is zero throughout'
@@ -23,6 +25,7 @@ blank =
       schedule = 0;
       price = pos 0;
       requirement = pos 0;
+      intervals = noIntervals;
     }
 
 -- 01: 'Open makes stage 1'; what a bid does not set is a free place's
@@ -37,6 +40,22 @@ bidRecord key mwh differential exempt requirement =
       schedule = blank .schedule;
       price = blank .price;
       requirement = requirement;
+      intervals = blank .intervals;
+    }
+
+-- 02, order 3: 'On opening a bid is pending (stage 1), requirement 0'; 'It carries no differential or exempt mark; these and bid MWh are 0'
+abbrev pub pendingRecord : Key → Intervals → Record
+pendingRecord key sums =
+    record {
+      key = key;
+      stage = bidStage;
+      mwh = blank .mwh;
+      differential = blank .differential;
+      exempt = blank .exempt;
+      schedule = blank .schedule;
+      price = blank .price;
+      requirement = blank .requirement;
+      intervals = sums;
     }
 
 -- taken on to a later stage. 01: 'Fields that a message doesn't set keep their values'
@@ -51,12 +70,14 @@ advanced r stage schedule price requirement =
       schedule = schedule;
       price = price;
       requirement = requirement;
+      intervals = r .intervals;
     }
 
 unfoldable pub isBlank : Record → Bool
 isBlank r =
     eqb (r .key .kind) 0 && eqb (r .key .path) 0 && eqb (r .key .hour) 0 && eqb (r .stage) 0 && eqb (r .mwh) 0
     && eqb (r .differential) 0 && not (r .exempt) && eqb (r .schedule) 0 && isNil (r .price) && isNil (r .requirement)
+    && isNone (r .intervals)
 
 -- 01: 'stages are 1 to 4', so a place at stage 0 holds no transaction
 unfoldable pub isFree : Record → Bool
@@ -65,6 +86,10 @@ isFree r = eqb (r .stage) 0
 -- the record stands open under this key
 unfoldable pub at : Key → Record → Bool
 at k r = not (isFree r) && sameKey k (r .key)
+
+-- 02, order 3: the 'pending keys of that hour'
+unfoldable pub isPending : ℕ → Record → Bool
+isPending hour r = eqb (r .key .kind) quarterHour && eqb (r .key .hour) hour && eqb (r .stage) bidStage
 
 -- ---- 01: 'A book is sound when ..', of one record, clause by clause
 
@@ -89,11 +114,16 @@ requirementFits rules stage amount =
     implies (leb stage postedStage) (pendingFits rules amount) && implies (eqb stage finishedStage) (isFinished amount)
     && implies (eqb stage billedStage) (isBill amount)
 
+-- 02, order 3: 'the record keeps its four MWh sums', which other kinds have not, and 'is pending (stage 1), requirement 0'
+abbrev pub quartersFit : Rules → Record → Bool
+quartersFit rules r =
+    (rules .intervals && intervalsFit (r .intervals) || isNone (r .intervals)) && implies (rules .intervals && eqb (r .stage) bidStage) (isNil (r .requirement))
+
 -- every clause but the key's, by the rules of its kind
 unfoldable pub keeps : Rules → Record → Bool
 keeps rules r =
     hasStage rules (r .stage) && bidMwhFits rules (r .mwh) && scheduleFits rules r && differentialFits rules (r .differential)
-    && dayAheadFits rules r && exemptFits rules r && requirementFits rules (r .stage) (r .requirement)
+    && dayAheadFits rules r && exemptFits rules r && requirementFits rules (r .stage) (r .requirement) && quartersFit rules r
 
 -- an open record that keeps every clause
 unfoldable pub okRecord : Record → Bool

@@ -1,4 +1,5 @@
 // A transaction's record.
+use intervals::types::Intervals;
 use keys::Key;
 
 // One place of the book. A free place is zero throughout.
@@ -13,4 +14,6 @@ pub struct Record {
     // The Day-Ahead price, which a posted import keeps.
     pub price: i64,
     pub requirement: i64,
+    // The four MWh sums of a fifteen-minute bid; other kinds have none.
+    pub intervals: Intervals,
 }

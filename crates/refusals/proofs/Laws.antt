@@ -27,6 +27,14 @@ pub and-right : (a b : Bool) → (a && b) ≡ true → b ≡ true
 and-right true b h = h
 and-right false b h = never h
 
+pub and-false : (a b : Bool) → b ≡ false → (a && b) ≡ false
+and-false true b h = h
+and-false false b h = refl
+
+pub and-none : (a b c : Bool) → b ≡ false → (a && b && c) ≡ false
+and-none true b c h = rw h
+and-none false b c h = refl
+
 pub and-both : (a b : Bool) → a ≡ true → b ≡ true → (a && b) ≡ true
 and-both a b p q = rw (p, q)
 

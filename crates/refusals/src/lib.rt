@@ -93,6 +93,11 @@ pub enum Answer {
         held: i64,
         owed: i64,
     },
+    // A close was accepted, and every pending bid of its hour removed: held with them would exceed the support (02, order 3).
+    Removed {
+        held: i64,
+        owed: i64,
+    },
 }
 
 impl Answer {
@@ -103,16 +108,18 @@ impl Answer {
         match self {
             Answer::Accepted { .. } => 0,
             Answer::Refused { number, .. } => number,
+            Answer::Removed { .. } => 0,
         }
     }
 
-    // The key's requirement; 0 in a refusal.
+    // The key's requirement, or a batch's; 0 in a refusal, and where a batch was removed.
     pub fn requirement(self) -> i64
         ensures { λ z. ⌜ z ≡ reply self .requirement ⌝ }
     {
         match self {
             Answer::Accepted { requirement, .. } => requirement,
             Answer::Refused { .. } => 0,
+            Answer::Removed { .. } => 0,
         }
     }
 
@@ -122,6 +129,7 @@ impl Answer {
         match self {
             Answer::Accepted { held, .. } => held,
             Answer::Refused { held, .. } => held,
+            Answer::Removed { held, .. } => held,
         }
     }
 
@@ -131,6 +139,18 @@ impl Answer {
         match self {
             Answer::Accepted { owed, .. } => owed,
             Answer::Refused { owed, .. } => owed,
+            Answer::Removed { owed, .. } => owed,
+        }
+    }
+
+    // A batch was removed.
+    pub fn removed(self) -> bool
+        ensures { λ r. ⌜ r ≡ reply self .removed ⌝ }
+    {
+        match self {
+            Answer::Accepted { .. } => false,
+            Answer::Refused { .. } => false,
+            Answer::Removed { .. } => true,
         }
     }
 }

@@ -1,28 +1,21 @@
 -- For the code's own steps alone: what one place more adds, in a walk over the places, to what those behind it have. Nothing here is the paper's.
 -- Assumes nothing.
-use mathlib.Core.Bool.{true, false, _&&_, cond}
+use mathlib.Core.Bool.{cond}
 use Prim.Native.Nat.{ℕ}
 use Rattle.keys.specs.declared.Key.{Key}
 use Rattle.records.specs.declared.types.Record.{Record}
-use Rattle.records.specs.Records.{isFree, at as atKey, okPlace}
+use Rattle.records.specs.Records.{isFree, at as atKey}
 use Rattle.credit.specs.Sums.{noSums, withRecord}
 pub use Rattle.walk.specs.declared.types.Walk.{Walk}
 
 -- before the first place
 abbrev pub nothing : Walk
-nothing = record { ranged = true; sums = noSums; free = 256; at = 256 }
-
--- once a place is out of range
-abbrev pub lost : Walk
-lost = record { ranged = false; sums = noSums; free = 0; at = 0 }
+nothing = record { sums = noSums; free = 256; at = 256 }
 
 unfoldable pub more : Walk → Record → Key → ℕ → Walk
 more s r k place =
-    cond (s .ranged && okPlace r)
-    (record {
-      ranged = true;
+    record {
       sums = withRecord (s .sums) r;
       free = cond (isFree r) place (s .free);
       at = cond (atKey k r) place (s .at);
-    })
-    lost
+    }

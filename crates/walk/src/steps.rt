@@ -1,8 +1,8 @@
 // The walk's one step, and what it finds in the end.
 ghost use mathlib.Core.Path.{_≡_};
-ghost use mathlib.Core.Bool.{cond};
+ghost use mathlib.Core.Bool.{true, cond};
 ghost use lib.Dec.{ltb};
-ghost use Rattle.records.specs.Records.{blank};
+ghost use Rattle.records.specs.Records.{blank, okPlace};
 ghost use Rattle.credit.specs.NoOverflow.{SumsWithin};
 ghost use Rattle.walk.specs.Walk.{nothing, more};
 use crate::types::Walk;
@@ -16,7 +16,6 @@ impl Walk {
         ensures { λ s. ⌜ s ≡ nothing ⌝ }
     {
         Walk {
-            ranged: true,
             sums: Sums::none(),
             free: Walk::NOWHERE,
             at: Walk::NOWHERE,
@@ -26,27 +25,18 @@ impl Walk {
     // One place more, before those that were passed.
     pub fn with(self, r: Record, key: Key, place: u64) -> Walk
         requires { ⌜ SumsWithin 400000000000000 (self .sums) ⌝ }
+        requires { ⌜ okPlace r ≡ true ⌝ }
         ensures { λ s. ⌜ s ≡ more self r key place ⌝ }
     {
-        if !(self.ranged & r.is_sound()) {
-            return Walk {
-                ranged: false,
-                sums: Sums::none(),
-                free: 0,
-                at: 0,
-            };
-        }
         let sums = self.sums;
         if r.is_free() {
             return Walk {
-                ranged: true,
                 sums,
                 free: place,
                 at: self.at,
             };
         }
         Walk {
-            ranged: true,
             sums: sums.with(r),
             free: self.free,
             at: pick(r.is_at(key), place, self.at),

@@ -33,6 +33,18 @@ enum-told c = search needs
 blank-requires : tie.Need-blank-requires
 blank-requires c κs = tt
 
+enum-known-message-8 : tie.Need-enum-known-message-8
+enum-known-message-8 c = search needs
+
+enum-known-message-9 : tie.Need-enum-known-message-9
+enum-known-message-9 c = search needs
+
+enum-told-2 : tie.Need-enum-told-2
+enum-told-2 c = search needs
+
+blank-requires-2 : tie.Need-blank-requires-2
+blank-requires-2 c κs = tt
+
 returns : tie.Need-returns
 returns c = ap keyOf (sym (c .before .before .message .given .1))
 
@@ -57,6 +69,15 @@ returns-7 c = ap keyOf (sym (c .before .message7 .given .1))
 returns-8 : tie.Need-returns-8
 returns-8 c = ap (λ (r : Record). r .key) (c .before .blank .ensures) ∙ ap keyOf (sym (c .before .before .enum-told .given .1))
 
+returns-9 : tie.Need-returns-9
+returns-9 c = ap keyOf (sym (c .before .before .message8 .given .1))
+
+returns-10 : tie.Need-returns-10
+returns-10 c = ap keyOf (sym (c .before .before .message9 .given .1))
+
+returns-11 : tie.Need-returns-11
+returns-11 c = ap (λ (r : Record). r .key) (c .before .blank2 .ensures) ∙ ap keyOf (sym (c .before .before .enum-told2 .given .1))
+
 pub key-of-spec : {M : Type 1} → statement M
 key-of-spec =
     tie.close
@@ -70,6 +91,10 @@ key-of-spec =
     enum-known-message-7
     enum-told
     blank-requires
+    enum-known-message-8
+    enum-known-message-9
+    enum-told-2
+    blank-requires-2
     returns
     returns-2
     returns-3
@@ -77,4 +102,7 @@ key-of-spec =
     returns-5
     returns-6
     returns-7
-    returns-8)
+    returns-8
+    returns-9
+    returns-10
+    returns-11)

@@ -54,6 +54,24 @@ enum-known-message-8 c = search needs
 support-requires : tie.Need-support-requires
 support-requires c κs = tt
 
+enum-known-message-9 : tie.Need-enum-known-message-9
+enum-known-message-9 c = search needs
+
+open-curves-requires : tie.Need-open-curves-requires
+open-curves-requires c κs = tt
+
+enum-known-message-10 : tie.Need-enum-known-message-10
+enum-known-message-10 c = search needs
+
+revise-curves-requires : tie.Need-revise-curves-requires
+revise-curves-requires c κs = tt
+
+enum-known-message-11 : tie.Need-enum-known-message-11
+enum-known-message-11 c = search needs
+
+close-requires : tie.Need-close-requires
+close-requires c κs = tt
+
 returns : tie.Need-returns
 returns c =
     let k = c .before .before in
@@ -108,6 +126,25 @@ returns-8 c =
     let a = k .before .before .before .args in
     c .support .ensures ∙ ap (λ (m : Message). planned (plan (a .old) m (a .mwh .now) (a .prices .now))) (sym (k .message8 .given .1))
 
+returns-9 : tie.Need-returns-9
+returns-9 c =
+    let k = c .before .before in
+    let a = k .before .before .before .args in
+    c .open-curves .ensures ∙ ap (λ (m : Message). planned (plan (a .old) m (a .mwh .now) (a .prices .now))) (sym (k .message9 .given .1))
+
+returns-10 : tie.Need-returns-10
+returns-10 c =
+    let k = c .before .before in
+    let a = k .before .before .before .args in
+    c .revise-curves .ensures ∙ ap (λ (m : Message). planned (plan (a .old) m (a .mwh .now) (a .prices .now))) (sym (k .message10 .given .1))
+
+returns-11 : tie.Need-returns-11
+unfolding plan
+returns-11 c =
+    let k = c .before .before in
+    let a = k .before .before .before .args in
+    c .close .ensures ∙ ap (λ (m : Message). planned (plan (a .old) m (a .mwh .now) (a .prices .now))) (sym (k .message11 .given .1))
+
 pub plan-of-spec : {M : Type 1} → statement M
 plan-of-spec =
     tie.close
@@ -128,6 +165,12 @@ plan-of-spec =
     pay-requires
     enum-known-message-8
     support-requires
+    enum-known-message-9
+    open-curves-requires
+    enum-known-message-10
+    revise-curves-requires
+    enum-known-message-11
+    close-requires
     returns
     returns-2
     returns-3
@@ -135,4 +178,7 @@ plan-of-spec =
     returns-5
     returns-6
     returns-7
-    returns-8)
+    returns-8
+    returns-9
+    returns-10
+    returns-11)

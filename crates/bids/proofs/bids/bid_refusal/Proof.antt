@@ -30,19 +30,23 @@ in-range-requires c κs = tt
 pick-requires-2 : tie.Need-pick-requires-2
 pick-requires-2 c κs = tt
 
+pick-requires-3 : tie.Need-pick-requires-3
+pick-requires-3 c κs = tt
+
 returns : tie.Need-returns
 unfolding first bidRows
 returns c =
-    let s = c .before .before .before .before .before .before .before .before .args in
+    let s = c .before .before .before .before .before .before .before .before .before .args in
     let last = row 8 (not (differentialFits (rulesOf (s .kind)) (s .differential))) ∷ [] in
     rw (
-      c .pick2 .ensures,
+      c .pick3 .ensures,
       c .before .in-range .ensures,
-      c .before .before .or-else .ensures,
-      c .before .before .before .points-refusal .ensures,
-      c .before .before .before .before .pick .ensures,
-      c .before .before .before .before .before .differential-fits .ensures,
-      c .before .before .before .before .before .before .rules .ensures,
+      c .before .before .pick2 .ensures,
+      c .before .before .before .or-else .ensures,
+      c .before .before .before .before .points-refusal .ensures,
+      c .before .before .before .before .before .pick .ensures,
+      c .before .before .before .before .before .before .differential-fits .ensures,
+      c .before .before .before .before .before .before .before .rules .ensures,
       first-append (pointRows (s .mwh .now) (s .prices .now)) last (point-rows-numbered (s .mwh .now) (s .prices .now)),
     )
 
@@ -55,6 +59,7 @@ bid-refusal-spec =
     pick-requires
     points-refusal-requires
     or-else-requires
-    in-range-requires
     pick-requires-2
+    in-range-requires
+    pick-requires-3
     returns)

@@ -4,8 +4,8 @@ use Rattle.bids.specs.Rows.{pointRows}
 use Rattle.bids.proofs.points.points_refusal.Statement.{statement}
 use Rattle.bids.proofs.points.points_refusal.Tie as tie
 
-mwh-in-range-requires : tie.Need-mwh-in-range-requires
-mwh-in-range-requires c κs = tt
+points-in-range-requires : tie.Need-points-in-range-requires
+points-in-range-requires c κs = tt
 
 prices-in-range-requires : tie.Need-prices-in-range-requires
 prices-in-range-requires c κs = tt
@@ -27,8 +27,8 @@ returns c =
       c .before .pick2 .ensures,
       c .before .before .pick .ensures,
       c .before .before .before .prices-in-range .ensures,
-      c .before .before .before .before .mwh-in-range .ensures,
+      c .before .before .before .before .points-in-range .ensures,
     )
 
 pub points-refusal-spec : {M : Type 1} → statement M
-points-refusal-spec = tie.close (tie.spec mwh-in-range-requires prices-in-range-requires pick-requires pick-requires-2 pick-requires-3 returns)
+points-refusal-spec = tie.close (tie.spec points-in-range-requires prices-in-range-requires pick-requires pick-requires-2 pick-requires-3 returns)

@@ -14,6 +14,9 @@ enum-known-self c = search needs
 enum-known-self-2 : tie.Need-enum-known-self-2
 enum-known-self-2 c = search needs
 
+enum-known-self-3 : tie.Need-enum-known-self-3
+enum-known-self-3 c = search needs
+
 returns : tie.Need-returns
 returns c =
     let k = c .before in
@@ -26,5 +29,11 @@ returns-2 c =
     let h : SFits w64 (k .self2 .given .0 .1 .0) = search needs in
     toZ-ofZ h ∙ ap (λ (x : Answer). reply x .held) (sym (k .self2 .given .1))
 
+returns-3 : tie.Need-returns-3
+returns-3 c =
+    let k = c .before in
+    let h : SFits w64 (k .self3 .given .0 .0) = search needs in
+    toZ-ofZ h ∙ ap (λ (x : Answer). reply x .held) (sym (k .self3 .given .1))
+
 pub held-spec : {M : Type 1} → statement M
-held-spec = tie.close (tie.spec enum-known-self enum-known-self-2 returns returns-2)
+held-spec = tie.close (tie.spec enum-known-self enum-known-self-2 enum-known-self-3 returns returns-2 returns-3)

@@ -14,6 +14,9 @@ enum-known-self c = search needs
 enum-told : tie.Need-enum-told
 enum-told c = search needs
 
+enum-told-2 : tie.Need-enum-told-2
+enum-told-2 c = search needs
+
 returns : tie.Need-returns
 returns c =
     let k = c .before in
@@ -23,5 +26,8 @@ returns c =
 returns-2 : tie.Need-returns-2
 returns-2 c = sym (ap (λ (x : Answer). reply x .requirement) (c .enum-told .given .1))
 
+returns-3 : tie.Need-returns-3
+returns-3 c = sym (ap (λ (x : Answer). reply x .requirement) (c .enum-told2 .given .1))
+
 pub requirement-spec : {M : Type 1} → statement M
-requirement-spec = tie.close (tie.spec enum-known-self enum-told returns returns-2)
+requirement-spec = tie.close (tie.spec enum-known-self enum-told enum-told-2 returns returns-2 returns-3)

@@ -1,23 +1,21 @@
 -- `sums_of`: the places passed are in range, and `sums` are theirs.
-use mathlib.Core.Path.{_≡_, refl, sym, ap, _∙_, subst}
+use mathlib.Core.Path.{_≡_, sym, ap, _∙_, subst}
 use mathlib.Core.Bool.{Bool, true, false, cond, _&&_}
 use mathlib.Core.List.{List, []}
 use Prim.Native.Nat.{ℕ, _-_, _<_, _≤_}
 use native.Mathlib.Omega.{arith}
-use lib.IntN.{ℤ, _+ℤ_, +ℤ-comm}
 use lib.ListN.{length, getD, drop, length-drop}
 use lib.Seq.{drop-length}
 use borrow.Author.Tests.{not-true, not-false}
-use Rattle.amounts.specs.Lists.{sum, total, every}
+use Rattle.amounts.specs.Lists.{sum, every}
 use Rattle.records.specs.declared.types.Record.{Record}
 use Rattle.records.specs.Records.{blank, okPlace}
 use Rattle.credit.specs.declared.types.Sums.{Sums}
-use Rattle.credit.specs.Credit.{owes}
-use Rattle.credit.specs.Sums.{noSums, unbilledOf, sumsOf, withRecord}
+use Rattle.credit.specs.Sums.{noSums, sumsOf, withRecord}
 use Rattle.credit.specs.NoOverflow.{SumsWithin}
 use Rattle.credit.proofs.Parts.{sums-wider}
 use Rattle.walk.specs.Summing.{sumsIn}
-use Rattle.walk.proofs.Sums.{sums-within, total-back, every-back, every-drop}
+use Rattle.walk.proofs.Sums.{sums-within, sums-back, every-back, every-drop}
 use Rattle.walk.proofs.summing.sums_of.Statement.{statement}
 use Rattle.walk.proofs.summing.sums_of.Tie as tie
 
@@ -81,15 +79,12 @@ module _ (rs : List Record) (few : length rs ≡ 256) (s : Sums) (i : ℕ) (h : 
   light : SumsWithin 332800000000000 s
   light = subst (SumsWithin 332800000000000) (sym (w .sums)) (sums-within (drop i rs) (w .fine) (omega (arith, few, length-drop i rs)))
 
-  total-more : (f : Record → ℤ) → (total f (drop i rs) +ℤ f here) ≡ total f (drop (i - 1) rs)
-  total-more f = +ℤ-comm (total f (drop i rs)) (f here) ∙ sym (total-back f rs i h le)
-
   more : okPlace here ≡ true → (t : Sums) → t ≡ withRecord s here → Summed rs t (i - 1)
   more ok t e =
       record {
         within = omega (arith, w .within);
         fine = all-of ∙ rw (ok, w .fine);
-        sums = e ∙ ap (λ (x : Sums). withRecord x here) (w .sums) ∙ (λ j. record { unbilled = total-more unbilledOf j; owed = total-more owes j });
+        sums = e ∙ ap (λ (x : Sums). withRecord x here) (w .sums) ∙ sums-back rs i h le;
       }
 
 returns : tie.Need-returns Inv-loop μ-loop

@@ -64,6 +64,18 @@ enum-told c = search needs
 enum-told-2 : tie.Need-enum-told-2
 enum-told-2 c = search needs
 
+enum-told-3 : tie.Need-enum-told-3
+enum-told-3 c = search needs
+
+is-suspended-requires-3 : tie.Need-is-suspended-requires-3
+is-suspended-requires-3 c κs = search needs
+
+pick-requires-6 : tie.Need-pick-requires-6
+pick-requires-6 c κs = search needs
+
+pick-requires-7 : tie.Need-pick-requires-7
+pick-requires-7 c κs = search needs
+
 returns : tie.Need-returns
 unfolding first
 returns c =
@@ -101,6 +113,10 @@ returns-4 : tie.Need-returns-4
 unfolding first
 returns-4 c = rw (c .enum-told2 .given .1)
 
+returns-5 : tie.Need-returns-5
+unfolding first
+returns-5 c = rw (c .before .before .before .enum-told3 .given .1, c .pick7 .ensures, c .before .pick6 .ensures, c .before .before .is-suspended3 .ensures)
+
 pub change-refusal-spec : {M : Type 1} → statement M
 change-refusal-spec =
     tie.close
@@ -118,7 +134,12 @@ change-refusal-spec =
     pick-requires-5
     enum-told
     enum-told-2
+    enum-told-3
+    is-suspended-requires-3
+    pick-requires-6
+    pick-requires-7
     returns
     returns-2
     returns-3
-    returns-4)
+    returns-4
+    returns-5)

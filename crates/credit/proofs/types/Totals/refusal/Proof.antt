@@ -16,6 +16,9 @@ change-refusal-requires c κs = let s = c .before .before .before in (s .pre .0,
 enum-told : tie.Need-enum-told
 enum-told c = search needs
 
+enum-told-2 : tie.Need-enum-told-2
+enum-told-2 c = search needs
+
 returns : tie.Need-returns
 returns c = c .change-refusal .ensures ∙ ap (λ d. first (creditRows (c .before .before .before .before .args .self) d)) (sym (c .before .before .deed .given .1))
 
@@ -23,5 +26,9 @@ returns-2 : tie.Need-returns-2
 unfolding first
 returns-2 c = rw (c .enum-told .given .1)
 
+returns-3 : tie.Need-returns-3
+unfolding first
+returns-3 c = rw (c .enum-told2 .given .1)
+
 pub refusal-spec : {M : Type 1} → statement M
-refusal-spec = tie.close (tie.spec enum-known-deed change-refusal-requires enum-told returns returns-2)
+refusal-spec = tie.close (tie.spec enum-known-deed change-refusal-requires enum-told enum-told-2 returns returns-2 returns-3)

@@ -3,16 +3,15 @@ use borrow.Author.Needs.{needs}
 use borrow.Author.Tests.{not-true, not-false, eqb-true, eqb-false}
 use mathlib.Core.Path.{_≡_, _∙_, sym, ap, subst}
 use Prim.Native.Nat.{ℕ}
-use lib.Dec.{eqb}
 use lib.IntN.{ℤ}
 use mir.Syntax.{w64}
 use mir.Val.{SFits}
 use mir.Facts.{toZ-ofZ}
 use Rattle.refusals.specs.Refusals.{first, refuse, accept, judge}
 use Rattle.refusals.proofs.Laws.{answered-none, answered-some}
-use Rattle.messages.specs.declared.types.Change.the-variants.{Add, Rebid, Advance, Remove}
+use Rattle.messages.specs.declared.types.Change.the-variants.{Add, Rebid, Advance, Remove, AddPending}
 use Rattle.messages.specs.declared.types.Deed.{Deed}
-use Rattle.messages.specs.declared.types.Deed.the-variants.{Keyed, SetSupport}
+use Rattle.messages.specs.declared.types.Deed.the-variants.{Keyed, SetSupport, CloseHour}
 use Rattle.records.proofs.Bounds.{requirement-bounded}
 use Rattle.credit.specs.declared.types.Totals.{Totals}
 use Rattle.credit.specs.NoOverflow.{TotalsBounded, DeedBounded}
@@ -27,7 +26,9 @@ bounded (Keyed (Add r)) f = requirement-bounded r f
 bounded (Keyed (Rebid was r)) f = (f .0, requirement-bounded r (f .1))
 bounded (Keyed (Advance r)) f = tt
 bounded (Keyed (Remove k)) f = tt
+bounded (Keyed (AddPending r)) f = tt
 bounded (SetSupport z) f = tt
+bounded (CloseHour hour) f = tt
 
 -- what the rows say, as a verdict
 module _ (t : Totals) (d : Deed) where
@@ -83,6 +84,12 @@ enum-known-deed-2 c = search needs
 funded-requires : tie.Need-funded-requires
 funded-requires c κs = tt
 
+enum-known-deed-3 : tie.Need-enum-known-deed-3
+enum-known-deed-3 c = search needs
+
+left-requires : tie.Need-left-requires
+left-requires c κs = tt
+
 returns-2 : tie.Need-returns-2
 unfolding endingOf
 returns-2 c =
@@ -100,6 +107,12 @@ returns-3 c =
     ∙ ap (carriedOut s) (sym (k .1))
     ∙ ap (endingOf s) (sym (passed (c .before .before .before .before)))
 
+returns-4 : tie.Need-returns-4
+unfolding endingOf
+returns-4 c =
+    let s = c .before .before .before .before .before .before .before .args .self in
+    c .left .ensures ∙ ap (carriedOut s) (sym (c .before .before .deed3 .given .1)) ∙ ap (endingOf s) (sym (passed (c .before .before .before .before)))
+
 pub carried-spec : {M : Type 1} → statement M
 carried-spec =
     tie.close
@@ -112,5 +125,8 @@ carried-spec =
     changed-requires
     enum-known-deed-2
     funded-requires
+    enum-known-deed-3
+    left-requires
     returns-2
-    returns-3)
+    returns-3
+    returns-4)

@@ -48,6 +48,17 @@ put-requires-4 c κs =
     let s = c .before .before .before in
     (s .pre .sums, (s .pre .old, ap okPlace (c .blank2 .ensures) ∙ ok-blank))
 
+enum-known-change-4 : tie.Need-enum-known-change-4
+enum-known-change-4 c = search needs
+
+blank-requires-3 : tie.Need-blank-requires-3
+blank-requires-3 c κs = tt
+
+put-requires-5 : tie.Need-put-requires-5
+put-requires-5 c κs =
+    let s = c .before .before .before .before in
+    (s .pre .sums, (ap okPlace (c .blank3 .ensures) ∙ ok-blank, subst (λ (x : Change). DeedSound (Keyed x)) (c .before .before .change4 .given .1) (s .pre .plan)))
+
 returns : tie.Need-returns
 returns c =
     let s = c .before .before .before .before .before .args .self in
@@ -65,6 +76,12 @@ returns-4 c =
     let s = c .before .before .before .before .args .self in
     c .put4 .ensures ∙ ap (λ (x : Record). putIn s (s .at) (s .old) x) (c .before .blank2 .ensures) ∙ ap (λ (x : Change). carriedOut s (Keyed x)) (sym (c .before .before .enum-told .given .1))
 
+returns-5 : tie.Need-returns-5
+returns-5 c =
+    let s = c .before .before .before .before .before .args .self in
+    let k = c .before .before .before .change4 .given in
+    c .put5 .ensures ∙ ap (λ (x : Record). putIn s (s .free) x (k .0 .0)) (c .before .blank3 .ensures) ∙ ap (λ (x : Change). carriedOut s (Keyed x)) (sym (k .1))
+
 pub changed-spec : {M : Type 1} → statement M
 changed-spec =
     tie.close
@@ -79,7 +96,11 @@ changed-spec =
     enum-told
     blank-requires-2
     put-requires-4
+    enum-known-change-4
+    blank-requires-3
+    put-requires-5
     returns
     returns-2
     returns-3
-    returns-4)
+    returns-4
+    returns-5)

@@ -18,14 +18,14 @@ all-distinct-requires : tie.Need-all-distinct-requires
 all-distinct-requires c κs = tt
 
 keeps-requires : tie.Need-keeps-requires
-keeps-requires c κs = let s = c .before .before .before .before .before in sums-wider (s .args .walk .sums) (s .pre) (omega arith)
+keeps-requires c κs = let s = c .before .before .before .before in sums-wider (s .args .walk .sums) (s .pre) (omega arith)
 
 returns : tie.Need-returns
 returns c =
-    let a = c .before .before .before .before .before .before .args in
+    let a = c .before .before .before .before .before .args in
     let h : SFits w64 (a .account .support) = search needs in
     λ i. record {
-      sound = a .walk .ranged && (c .before .before .before .is-support .ensures ∙ ap isSupport (toZ-ofZ h)) i && c .before .all-distinct .ensures i && c .keeps .ensures i;
+      sound = (c .before .before .is-support .ensures ∙ ap isSupport (toZ-ofZ h)) i && c .before .all-distinct .ensures i && c .keeps .ensures i;
       account = a .account;
       sums = a .walk .sums;
       free = a .walk .free;

@@ -3,7 +3,6 @@ use mathlib.Core.Path.{_≡_, _∙_, sym, ap, subst}
 use native.Mathlib.Omega.{arith}
 use Rattle.amounts.proofs.Steps.{read}
 use Rattle.records.proofs.Bounds.{requirement-bounded}
-use Rattle.credit.specs.declared.types.Account.{Account}
 use Rattle.credit.specs.declared.types.Sums.{Sums}
 use Rattle.credit.specs.Sums.{withRecord, withoutRecord, summed}
 use Rattle.credit.specs.NoOverflow.{SumsWithin}
@@ -59,6 +58,7 @@ returns c =
       account = account-is (c .before .before) i;
       place = s .args .place;
       new = s .args .new;
+      hour = 1000000;
     }
 
 pub put-spec : {M : Type 1} → statement M

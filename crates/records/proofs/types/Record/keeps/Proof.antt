@@ -25,18 +25,22 @@ exempt-fits-requires c κs = tt
 requirement-fits-requires : tie.Need-requirement-fits-requires
 requirement-fits-requires c κs = tt
 
+quarters-fit-requires : tie.Need-quarters-fit-requires
+quarters-fit-requires c κs = tt
+
 returns : tie.Need-returns
 unfolding keeps
 returns c =
     rw (
-      c .before .before .before .before .before .before .before .has-stage .ensures,
-      c .before .before .before .before .before .before .bid-mwh-fits .ensures,
-      c .before .before .before .before .before .schedule-fits .ensures,
-      c .before .before .before .before .differential-fits .ensures,
-      c .before .before .before .day-ahead-fits .ensures,
-      c .before .before .exempt-fits .ensures,
-      c .requirement-fits .ensures,
-      back (c .before .before .before .before .before .before .before .before .args .self .requirement) (c .before .struct-told .given .1 .1 .1 .1 .1 .1 .1 .0 .1),
+      c .before .before .before .before .before .before .before .before .has-stage .ensures,
+      c .before .before .before .before .before .before .before .bid-mwh-fits .ensures,
+      c .before .before .before .before .before .before .schedule-fits .ensures,
+      c .before .before .before .before .before .differential-fits .ensures,
+      c .before .before .before .before .day-ahead-fits .ensures,
+      c .before .before .before .exempt-fits .ensures,
+      c .before .requirement-fits .ensures,
+      c .quarters-fit .ensures,
+      back (c .before .before .before .before .before .before .before .before .before .args .self .requirement) (c .before .before .struct-told .given .1 .1 .1 .1 .1 .1 .1 .0 .1),
     )
 
 pub keeps-spec : {M : Type 1} → statement M
@@ -50,4 +54,5 @@ keeps-spec =
     day-ahead-fits-requires
     exempt-fits-requires
     requirement-fits-requires
+    quarters-fit-requires
     returns)

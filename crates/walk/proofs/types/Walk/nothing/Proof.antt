@@ -1,5 +1,4 @@
 -- `Walk::nothing`: no place is passed yet.
-use mathlib.Core.Bool.{true}
 use Rattle.walk.proofs.types.Walk.nothing.Statement.{statement}
 use Rattle.walk.proofs.types.Walk.nothing.Tie as tie
 
@@ -7,7 +6,7 @@ none-requires : tie.Need-none-requires
 none-requires c κs = tt
 
 returns : tie.Need-returns
-returns c = λ i. record { ranged = true; sums = c .none .ensures i; free = 256; at = 256 }
+returns c = λ i. record { sums = c .none .ensures i; free = 256; at = 256 }
 
 pub nothing-spec : {M : Type 1} → statement M
 nothing-spec = tie.close (tie.spec none-requires returns)

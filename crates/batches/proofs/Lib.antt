@@ -1,0 +1,6 @@
+pub mod Mapped
+pub mod Laws
+pub mod Exact
+mod Entries
+mod Walked
+mod Ended
