@@ -3,8 +3,8 @@
 -- Assumes nothing.
 use mathlib.Core.Path.{_≡_, refl, sym, ap, _∙_, subst, subst₂}
 use mathlib.Core.Bool.{Bool, true, false, cond, not, _&&_, Bool·beq}
-use mathlib.Core.List.{List}
-use mathlib.Core.Option.{Option, none}
+use mathlib.Core.List.{List, [], _∷_}
+use mathlib.Core.Option.{Option, none, some}
 use Prim.Native.Nat.{ℕ, _+_, _≤_}
 use native.Mathlib.Omega.{arith}
 use lib.IntN.{ℤ, pos, _+ℤ_, +ℤ-comm}
@@ -13,6 +13,7 @@ use Rattle.amounts.specs.Lists.{total}
 use Rattle.amounts.proofs.Signed.{signed, tested, sum-of}
 use Rattle.refusals.specs.Refusals.{None}
 use Rattle.refusals.proofs.Laws.{never, none-join}
+use Rattle.kinds.specs.Kinds.{quarterHour}
 use Rattle.keys.specs.declared.Key.{Key}
 use Rattle.keys.specs.Keys.{sameKey}
 use Rattle.records.specs.declared.types.Record.{Record}
@@ -20,9 +21,9 @@ use Rattle.records.specs.Records.{blank, at}
 use Rattle.keys.proofs.Laws.{sameKey-eq, sameKey-refl}
 use Rattle.records.proofs.Places.{free-blank}
 use Rattle.messages.specs.declared.types.Message.{Message}
-use Rattle.messages.specs.declared.types.Message.the-variants.{Open, Revise, Withdraw, Post, Finish, Bill, Pay, Support}
+use Rattle.messages.specs.declared.types.Message.the-variants.{Open, Revise, Withdraw, Post, Finish, Bill, Pay, Support, OpenCurves, ReviseCurves, Close}
 use Rattle.messages.specs.declared.types.Change.{Change}
-use Rattle.messages.specs.declared.types.Change.the-variants.{Add, Rebid, Advance, Remove}
+use Rattle.messages.specs.declared.types.Change.the-variants.{Add, Rebid, Advance, Remove, AddPending}
 use Rattle.messages.specs.declared.types.Deed.{Deed}
 use Rattle.messages.specs.declared.types.Deed.the-variants.{Keyed}
 use Rattle.messages.specs.Plan.{keyOf, opens, deedFor, planRows}
@@ -30,17 +31,19 @@ use Rattle.messages.proofs.Fits.{Fits}
 use Rattle.credit.specs.Credit.{creditRows, answeredBy}
 use Rattle.book.specs.declared.types.Book.{Book}
 use Rattle.book.specs.Places.{find, orElseBlank}
-use Rattle.book.specs.Books.{lookup, sound, full, totals}
+use Rattle.book.specs.Books.{lookup, sound, held, owed, full, totals}
+use Rattle.refusals.specs.declared.Answer.{Answer}
+use Rattle.refusals.specs.declared.Answer.the-variants.{Accepted}
 use Rattle.refusals.specs.Answers.{reply}
-use Rattle.book.proofs.Verdicts.{table-parts}
-use Rattle.book.specs.Step.{deedOf, done, step}
+use Rattle.book.proofs.Verdicts.{bookRows, table-parts}
+use Rattle.book.specs.Step.{deedOf, done, answerTo, step}
 use Rattle.book.proofs.Places.{count}
 use Rattle.book.proofs.Effect.{Effect, weight, mark}
-use Rattle.book.proofs.Kept.{lookup-none, effect, leaves, done-sound}
+use Rattle.book.proofs.Kept.{lookup-none, lookup-some, effect, leaves, done-sound}
 use Rattle.demands.proofs.Answers.{none-accepted}
 use Rattle.demands.proofs.Accepted.{taken, fitting}
-use Rattle.demands.specs.Runs.{sentTo}
-use Rattle.demands.specs.Three.{requirementOf, Dealt, keyed, owner, Follows, topSupport}
+use Rattle.demands.specs.Runs.{Sent, sentTo}
+use Rattle.demands.specs.Three.{Unremoved, requirementOf, Dealt, keyed, owner, Follows, topSupport}
 use Rattle.demands.proofs.Top.{weighed-top}
 use Rattle.demands.proofs.Room.{isUsed, room-kept}
 
@@ -48,8 +51,8 @@ use Rattle.demands.proofs.Room.{isUsed, room-kept}
 abbrev pub under : Key → Book → Option Record
 under k b = find (at k) (b .records)
 
--- o says whose each key's latest transaction is
-pub record Deal (o : Key → Bool) (W : Book) (D : Bool → Book) : Type 0 where
+-- o says whose each key's latest transaction is, H whose the quarter-hour bids of each hour
+pub record Deal (o : Key → Bool) (H : ℕ → Bool) (W : Book) (D : Bool → Book) : Type 0 where
   pub finds : (s : Bool) (k : Key) → under k (D s) ≡ cond (Bool·beq s (o k)) (under k W) none
   pub sums : (f : Record → ℤ) → f blank ≡ pos 0 → total f (W .records) ≡ total f (D false .records) +ℤ total f (D true .records)
   pub marks : (p : Record → Bool) → p blank ≡ false → count p (W .records) ≡ count p (D false .records) + count p (D true .records)
@@ -57,6 +60,8 @@ pub record Deal (o : Key → Bool) (W : Book) (D : Bool → Book) : Type 0 where
   pub sizes : (s : Bool) → length (D s .records) ≡ 256
   pub sane : (s : Bool) → sound (D s) ≡ true
   pub top : (s : Bool) → totals (D s) .support ≡ pos topSupport
+  -- 02, order 3: 'all kind 5 keys of an hour dealt to the same book'
+  pub hours : (k : Key) (r : Record) → under k W ≡ some r → k .kind ≡ quarterHour → o k ≡ H (k .hour)
 
 -- the two books with one of them replaced
 abbrev pub put : (Bool → Book) → Bool → Book → Bool → Book
@@ -65,7 +70,7 @@ put D true b false = D false
 put D false b true = D true
 put D false b false = b
 
-put-each : (P : Book → Type 0) (D : Bool → Book) (s : Bool) (b : Book) → P b → ((t : Bool) → P (D t)) → (t : Bool) → P (put D s b t)
+pub put-each : (P : Book → Type 0) (D : Bool → Book) (s : Bool) (b : Book) → P b → ((t : Bool) → P (D t)) → (t : Bool) → P (put D s b t)
 put-each P D true b h k true = h
 put-each P D true b h k false = k false
 put-each P D false b h k true = k true
@@ -82,6 +87,15 @@ opens-none b m (Add r) f h = lookup-none b (keyOf m) (f .free)
 opens-none b m (Rebid was r) f h = never (sym (f .later) ∙ h)
 opens-none b m (Advance r) f h = never (sym (f .later) ∙ h)
 opens-none b m (Remove k) f h = never (sym (f .later) ∙ h)
+opens-none b m (AddPending r) f h = lookup-none b (keyOf m) (f .added .free)
+
+-- what opens nothing finds a record under its key
+later-some : (b : Book) (m : Message) (c : Change) → Fits (lookup b (keyOf m)) m (Keyed c) → opens m ≡ false → under (keyOf m) b ≡ some (lookup b (keyOf m))
+later-some b m (Add r) f h = never (sym h ∙ f .begins)
+later-some b m (Rebid was r) f h = lookup-some b (keyOf m) (f .used)
+later-some b m (Advance r) f h = lookup-some b (keyOf m) (f .used)
+later-some b m (Remove k) f h = lookup-some b (keyOf m) (f .used)
+later-some b m (AddPending r) f h = never (sym h ∙ f .added .begins)
 
 -- only an open needs a free place
 opens-room : (b : Book) (m : Message) (c : Change) → Fits (lookup b (keyOf m)) m (Keyed c) → None (creditRows (totals b) (Keyed c)) → opens m ≡ true → full b ≡ false
@@ -90,12 +104,13 @@ opens-room b m (Add r) f w h = w .1 .0
 opens-room b m (Rebid was r) f w h = never (sym (f .later) ∙ h)
 opens-room b m (Advance r) f w h = never (sym (f .later) ∙ h)
 opens-room b m (Remove k) f w h = never (sym (f .later) ∙ h)
+opens-room b m (AddPending r) f w h = w .1 .0
 
 beq-refl : (s : Bool) → Bool·beq s s ≡ true
 beq-refl true = refl
 beq-refl false = refl
 
-beq-not : (s : Bool) → Bool·beq (not s) s ≡ false
+pub beq-not : (s : Bool) → Bool·beq (not s) s ≡ false
 beq-not true = refl
 beq-not false = refl
 
@@ -114,7 +129,7 @@ owner-others true true s t e = never (sym e)
 owner-others true false s t e = refl
 owner-others false same s t e = refl
 
-module _ (o : Key → Bool) (W : Book) (D : Bool → Book) (I : Deal o W D) where
+module _ (o : Key → Bool) (H : ℕ → Bool) (W : Book) (D : Bool → Book) (I : Deal o H W D) where
   module _ (s : Bool) (m : Message) (follows : opens m ≡ false → s ≡ o (keyOf m)) (c : Change) (fits : Fits (lookup W (keyOf m)) m (Keyed c)) where
     abbrev its : Key
     its = keyOf m
@@ -144,16 +159,17 @@ module _ (o : Key → Bool) (W : Book) (D : Bool → Book) (I : Deal o W D) wher
 
   -- ---- the changed books
 
-  module _ (o′ : Key → Bool) (s : Bool) (k : Key) (c : Change)
+  module _ (o′ : Key → Bool) (s : Bool) (k : Key) (ms : List ℕ) (ps : List ℤ) (c : Change)
       (mine : o′ k ≡ s) (others : (l : Key) → sameKey k l ≡ false → o′ l ≡ o l)
       (own : under k (D s) ≡ under k W) (other : under k (D (not s)) ≡ none)
-      (EW : Effect k (W .records) (done W (Keyed c) .records) (leaves c)) (ES : Effect k (D s .records) (done (D s) (Keyed c) .records) (leaves c))
-      (sane : sound (done (D s) (Keyed c)) ≡ true) (funds : totals (done (D s) (Keyed c)) .support ≡ totals (D s) .support) where
+      (EW : Effect k (W .records) (done W ms ps (Keyed c) .records) (leaves c)) (ES : Effect k (D s .records) (done (D s) ms ps (Keyed c) .records) (leaves c))
+      (sane : sound (done (D s) ms ps (Keyed c)) ≡ true) (funds : totals (done (D s) ms ps (Keyed c)) .support ≡ totals (D s) .support)
+      (quarters : k .kind ≡ quarterHour → s ≡ H (k .hour)) where
     abbrev W′ : Book
-    W′ = done W (Keyed c)
+    W′ = done W ms ps (Keyed c)
 
     abbrev A : Book
-    A = done (D s) (Keyed c)
+    A = done (D s) ms ps (Keyed c)
 
     at-key : (s t : Bool) (D : Bool → Book) (A : Book) (n : Option Record) → under k A ≡ n → under k (D (not s)) ≡ none → under k (put D s A t) ≡ cond (Bool·beq t s) n none
     at-key true true D A n h e = h
@@ -194,7 +210,12 @@ module _ (o : Key → Bool) (W : Book) (D : Bool → Book) (I : Deal o W D) wher
     marks′ false A p u v h e z = omega (arith, I .marks p z)
     marks′ true A p u v h e z = omega (arith, I .marks p z)
 
-    pub changed : Deal o′ W′ (put D s A)
+    hours′ : (l : Key) (r : Record) → under l W′ ≡ some r → l .kind ≡ quarterHour → o′ l ≡ H (l .hour)
+    hours′ l r e five =
+        tested (sameKey k l) (λ q. subst (λ (l : Key). l .kind ≡ quarterHour → o′ l ≡ H (l .hour)) (sameKey-eq k l q) (λ f. mine ∙ quarters f) five)
+        (λ q. others l q ∙ I .hours l r (sym (EW .there l q) ∙ e) five)
+
+    pub changed : Deal o′ H W′ (put D s A)
     changed =
         record {
           finds = finds′;
@@ -206,6 +227,7 @@ module _ (o : Key → Bool) (W : Book) (D : Bool → Book) (I : Deal o W D) wher
           sizes = put-each (λ b. length (b .records) ≡ 256) D s A (ES .size ∙ I .sizes s) (I .sizes);
           sane = put-each (λ b. sound b ≡ true) D s A sane (I .sane);
           top = put-each (λ b. totals b .support ≡ pos topSupport) D s A (funds ∙ I .top s) (I .top);
+          hours = hours′;
         }
 
 -- ---- one message
@@ -220,53 +242,73 @@ keyed-asks old (Finish f) ms ps h = (_, refl)
 keyed-asks old (Bill b) ms ps h = (_, refl)
 keyed-asks old (Pay k) ms ps h = (_, refl)
 keyed-asks old (Support s) ms ps h = never h
+keyed-asks old (OpenCurves c) ms ps h = (_, refl)
+keyed-asks old (ReviseCurves c) ms ps h = (_, refl)
+keyed-asks old (Close c) ms ps h = never h
 
 -- accepted, from the parts of the table
-pub takes : (b : Book) (m : Message) (ms : List ℕ) (ps : List ℤ) → sound b ≡ true → None (planRows (lookup b (keyOf m)) m ms ps) → None (creditRows (totals b) (deedOf b m ms ps))
+pub takes : (b : Book) (m : Message) (ms : List ℕ) (ps : List ℤ) → sound b ≡ true → None (planRows (lookup b (keyOf m)) m ms ps) → None (bookRows b ms (deedOf b m ms ps))
     → reply (step b m ms ps .answer) .number ≡ 0
 unfolding None
 takes b m ms ps h p w =
     none-accepted b m ms ps
-    (subst None (sym (table-parts b m ms ps)) (ap not h, none-join (planRows (lookup b (keyOf m)) m ms ps) (creditRows (totals b) (deedOf b m ms ps)) p w))
+    (subst None (sym (table-parts b m ms ps)) (ap not h, none-join (planRows (lookup b (keyOf m)) m ms ps) (bookRows b ms (deedOf b m ms ps)) p w))
 
-pub record Went (o : Key → Bool) (W : Book) (D : Bool → Book) (x : Dealt) : Type 0 where
+-- a change answers its own requirement, whatever the book
+answered-as : (b : Book) (ms : List ℕ) (ps : List ℤ) (c : Change) (d : Deed) (h o : ℤ) (a : Answer) → a ≡ answerTo b ms ps d h o → d ≡ Keyed c → a ≡ Accepted (answeredBy c) h o
+unfolding answerTo
+answered-as b ms ps c d h o a e q = e ∙ ap (λ (x : Deed). answerTo b ms ps x h o) q
+
+-- an acceptance removes no batch
+pub accepted-unremoved : (b : Book) (y : Sent) (z h o : ℤ) → sentTo b y .answer ≡ Accepted z h o → Unremoved b (y ∷ [])
+unfolding Unremoved
+accepted-unremoved b y z h o e = rw e (refl, tt)
+
+pub record Went (o : Key → Bool) (H : ℕ → Bool) (W : Book) (D : Bool → Book) (x : Dealt) : Type 0 where
   pub taken : reply (sentTo (D (x .side)) (x .sent) .answer) .number ≡ 0
+  pub unremoved : Unremoved (D (x .side)) (x .sent ∷ [])
   pub answered : requirementOf (D (x .side)) (x .sent) ≡ requirementOf W (x .sent)
-  pub now : Deal (owner o x) (sentTo W (x .sent) .book) (put D (x .side) (sentTo (D (x .side)) (x .sent) .book))
+  pub now : Deal (owner o x) H (sentTo W (x .sent) .book) (put D (x .side) (sentTo (D (x .side)) (x .sent) .book))
 
-pub deal-step : (o : Key → Bool) (W : Book) (D : Bool → Book) → Deal o W D → (x : Dealt) → keyed (x .sent .message) ≡ true → Follows o x
-    → reply (sentTo W (x .sent) .answer) .number ≡ 0 → Went o W D x
-unfolding Follows owner deedOf lookup done totals
-deal-step o W D I x keys follows accepted =
+pub deal-step : (o : Key → Bool) (H : ℕ → Bool) (W : Book) (D : Bool → Book) → Deal o H W D → (x : Dealt) → keyed (x .sent .message) ≡ true → Follows o H x
+    → reply (sentTo W (x .sent) .answer) .number ≡ 0 → Went o H W D x
+unfolding owner deedOf lookup done totals
+deal-step o H W D I x keys fair accepted =
     let s = x .side in
     let m = x .sent .message in
     let ms = x .sent .mwhs in
     let ps = x .sent .prices in
     let k = keyOf m in
+    let follows : opens m ≡ false → s ≡ o k = fair .later keys in
     let asks = keyed-asks (lookup W k) m ms ps keys in
     let c : Change = asks .0 in
     let whole = taken W m ms ps accepted in
     let fits : Fits (lookup W k) m (Keyed c) = subst (Fits (lookup W k) m) (asks .1) (fitting W m ms ps whole) in
-    let weighed : None (creditRows (totals W) (Keyed c)) = subst (λ (d : Deed). None (creditRows (totals W) d)) (asks .1) (whole .weighed) in
-    let own : under k (D s) ≡ under k W = own-find o W D I s m (follows keys) c fits in
+    let weighed : None (creditRows (totals W) (Keyed c)) = subst (λ (d : Deed). None (bookRows W ms d)) (asks .1) (whole .weighed) in
+    let own : under k (D s) ≡ under k W = own-find o H W D I s m follows c fits in
     let same : lookup (D s) k ≡ lookup W k = ap (orElseBlank blank) own in
     let asks′ : deedFor (lookup (D s) k) m ms ps ≡ Keyed c = ap (λ (r : Record). deedFor r m ms ps) same ∙ asks .1 in
     let fits′ : Fits (lookup (D s) k) m (Keyed c) = subst (λ (r : Record). Fits r m (Keyed c)) (sym same) fits in
-    let room : opens m ≡ true → full (D s) ≡ false = λ e. side-room o W D I s (opens-room W m c fits weighed e) in
+    let room : opens m ≡ true → full (D s) ≡ false = λ e. side-room o H W D I s (opens-room W m c fits weighed e) in
     let weighed′ : None (creditRows (totals (D s)) (Keyed c)) = weighed-top (D s) m (I .sane s) (I .sizes s) (I .top s) (Keyed c) fits′ room in
     let accepted′ : reply (step (D s) m ms ps .answer) .number ≡ 0 =
     takes (D s) m ms ps (I .sane s) (subst (λ (r : Record). None (planRows r m ms ps)) (sym same) (whole .planned))
-    (subst (λ (d : Deed). None (creditRows (totals (D s)) d)) (sym asks′) weighed′) in
+    (subst (λ (d : Deed). None (bookRows (D s) ms d)) (sym asks′) weighed′) in
     let side = taken (D s) m ms ps accepted′ in
+    let answers : (b : Book) → deedOf b m ms ps ≡ Keyed c → step b m ms ps .answer ≡ answerTo b ms ps (deedOf b m ms ps) (held (step b m ms ps .book)) (owed (step b m ms ps .book))
+    → step b m ms ps .answer ≡ Accepted (answeredBy c) (held (step b m ms ps .book)) (owed (step b m ms ps .book)) =
+    λ b q e. answered-as b ms ps c (deedOf b m ms ps) (held (step b m ms ps .book)) (owed (step b m ms ps .book)) (step b m ms ps .answer) e q in
     record {
       taken = accepted′;
-      answered = side .requirement ∙ ap answeredBy (asks′ ∙ sym (asks .1)) ∙ sym (whole .requirement);
+      unremoved = accepted-unremoved (D s) (x .sent) (answeredBy c) _ _ (answers (D s) asks′ (side .answer));
+      answered = ap (λ (a : Answer). reply a .requirement) (answers (D s) asks′ (side .answer)) ∙ sym (ap (λ (a : Answer). reply a .requirement) (answers W (asks .1) (whole .answer)));
       now =
-          subst₂ (λ A B. Deal (owner o x) A (put D s B)) (sym (whole .next ∙ ap (done W) (asks .1))) (sym (side .next ∙ ap (done (D s)) asks′))
-          (changed o W D I (owner o x) s k c (owner-mine (opens m) (sameKey k k) s (o k) (sameKey-refl k) (follows keys)) (λ l e. owner-others (opens m) (sameKey k l) s (o l) e) own
-          (other-find o W D I s m (follows keys) c fits)
+          subst₂ (λ A B. Deal (owner o x) H A (put D s B)) (sym (whole .next ∙ ap (done W ms ps) (asks .1))) (sym (side .next ∙ ap (done (D s) ms ps) asks′))
+          (changed o H W D I (owner o x) s k ms ps c (owner-mine (opens m) (sameKey k k) s (o k) (sameKey-refl k) follows) (λ l e. owner-others (opens m) (sameKey k l) s (o l) e) own
+          (other-find o H W D I s m follows c fits)
           (effect W m c (whole .sane) fits weighed)
           (effect (D s) m c (I .sane s) fits′ weighed′)
-          (done-sound (D s) m (Keyed c) (I .sane s) fits′ weighed′)
-          refl);
+          (done-sound (D s) m ms ps (Keyed c) (I .sane s) fits′ weighed′)
+          refl
+          (λ five. tested (opens m) (λ e. fair .quarters e five) (λ e. follows e ∙ I .hours k (lookup W k) (later-some W m c fits e) five)));
     }

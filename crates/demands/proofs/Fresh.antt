@@ -17,7 +17,7 @@ use Rattle.records.proofs.Places.{at-blank}
 use Rattle.book.specs.declared.types.Book.{Book}
 use Rattle.book.specs.Books.{totals, noRecords, empty}
 use Rattle.book.specs.Step.{fresh}
-use Rattle.book.proofs.Places.{count, count-find}
+use Rattle.book.proofs.Places.{count, count-find, none≢some}
 use Rattle.demands.proofs.Soundness.{empty-sound}
 use Rattle.demands.specs.Three.{topSupport}
 use Rattle.demands.proofs.Deal.{under, Deal}
@@ -53,9 +53,9 @@ nones : (b : Bool) (x y : Option Record) → x ≡ none → y ≡ none → x ≡
 nones true x y h k = h ∙ sym k
 nones false x y h k = h
 
-empty-deal : (o : Key → Bool) (z : ℤ) → Deal o (empty z) (λ s. empty (pos topSupport))
+empty-deal : (o : Key → Bool) (H : ℕ → Bool) (z : ℤ) → Deal o H (empty z) (λ s. empty (pos topSupport))
 unfolding totals
-empty-deal o z =
+empty-deal o H z =
     record {
       finds = λ s k. nones (Bool·beq s (o k)) (under k (empty (pos topSupport))) (under k (empty z)) (empty-find (pos topSupport) k) (empty-find z k);
       sums = λ f h. nothing-held f h ∙ sym (ap (λ q. q +ℤ total f noRecords) (nothing-held f h) ∙ ap (λ q. pos 0 +ℤ q) (nothing-held f h));
@@ -64,6 +64,7 @@ empty-deal o z =
       sizes = λ s. empty-places;
       sane = λ s. empty-sound (pos topSupport) refl;
       top = λ s. refl;
+      hours = λ k r e five. none≢some r (sym (empty-find z k) ∙ e);
     }
 
 -- 01: 'an out-of-range support answers .. an empty book of support 0'
@@ -75,8 +76,8 @@ pub fresh-top : fresh (pos topSupport) .book ≡ empty (pos topSupport)
 unfolding fresh
 fresh-top = refl
 
-pub fresh-deal : (o : Key → Bool) (z : ℤ) → Deal o (fresh z .book) (λ s. fresh (pos topSupport) .book)
-fresh-deal o z =
+pub fresh-deal : (o : Key → Bool) (H : ℕ → Bool) (z : ℤ) → Deal o H (fresh z .book) (λ s. fresh (pos topSupport) .book)
+fresh-deal o H z =
     let e = fresh-empty z in
-    subst (λ (W : Book). Deal o W (λ s. fresh (pos topSupport) .book)) (sym (e .1))
-    (subst (λ (B : Book). Deal o (empty (e .0)) (λ s. B)) (sym fresh-top) (empty-deal o (e .0)))
+    subst (λ (W : Book). Deal o H W (λ s. fresh (pos topSupport) .book)) (sym (e .1))
+    (subst (λ (B : Book). Deal o H (empty (e .0)) (λ s. B)) (sym fresh-top) (empty-deal o H (e .0)))

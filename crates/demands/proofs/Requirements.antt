@@ -1,4 +1,4 @@
--- What an accepted message leaves under its key, by document 01's formulas, and that it leaves every other record as it was.
+-- What an accepted message leaves under its key, by document 01's formulas, and that it leaves every other record as it was. What a close leaves is proofs/Closures.antt.
 -- Assumes nothing.
 use mathlib.Core.Path.{_≡_, refl, sym, ap, _∙_, subst}
 use mathlib.Core.Bool.{true, false}
@@ -12,27 +12,29 @@ use Rattle.kinds.specs.Kinds.{finishedStage}
 use Rattle.keys.specs.declared.Key.{Key}
 use Rattle.keys.specs.Keys.{sameKey, keyFits}
 use Rattle.records.specs.declared.types.Record.{Record}
-use Rattle.records.specs.Records.{blank}
+use Rattle.records.specs.Records.{blank, pendingRecord}
 use Rattle.records.proofs.Clauses.{clauses}
 use Rattle.messages.specs.declared.types.Message.{Message}
-use Rattle.messages.specs.declared.types.Message.the-variants.{Open, Revise, Withdraw, Post, Finish, Bill, Pay, Support}
+use Rattle.messages.specs.declared.types.Message.the-variants.{Open, Revise, Withdraw, Post, Finish, Bill, Pay, Support, OpenCurves, ReviseCurves, Close}
 use Rattle.messages.specs.declared.types.Funding.{Funding}
 use Rattle.messages.specs.declared.types.Change.{Change}
-use Rattle.messages.specs.declared.types.Change.the-variants.{Add, Rebid, Advance, Remove}
+use Rattle.messages.specs.declared.types.Change.the-variants.{Add, Rebid, Advance, Remove, AddPending}
 use Rattle.messages.specs.declared.types.Deed.{Deed}
-use Rattle.messages.specs.declared.types.Deed.the-variants.{Keyed, SetSupport}
+use Rattle.messages.specs.declared.types.Deed.the-variants.{Keyed, SetSupport, CloseHour}
 use Rattle.messages.specs.Plan.{keyOf, openedRecord, postedRecord, laterRecord}
 use Rattle.messages.proofs.Fits.{Fits}
-use Rattle.messages.proofs.Formulas.{bid-is, revised-is, posted-is, finished-is}
-use Rattle.credit.specs.Credit.{creditRows, answeredBy}
+use Rattle.messages.proofs.Formulas.{bid-is, revised-is, posted-is, finished-is, intervals-is, revised-intervals-is}
+use Rattle.credit.specs.Credit.{answeredBy}
 use Rattle.book.specs.declared.types.Book.{Book}
-use Rattle.credit.specs.Account.{supported}
 use Rattle.book.specs.Places.{orElseBlank}
-use Rattle.book.specs.Books.{lookup, sound, totals}
-use Rattle.book.specs.Step.{deedOf, done}
+use Rattle.book.specs.Books.{lookup, sound, held, owed}
+use Rattle.refusals.specs.Answers.{reply}
+use Rattle.refusals.specs.declared.Answer.{Answer}
+use Rattle.book.specs.Step.{deedOf, done, answerTo}
+use Rattle.book.proofs.Verdicts.{bookRows}
 use Rattle.book.proofs.Kept.{leaves, effect, lookup-under}
 use Rattle.demands.specs.Runs.{nextBook, replied}
-use Rattle.demands.specs.Two.{recordSet}
+use Rattle.demands.specs.Two.{recordSet, closes}
 use Rattle.demands.proofs.Accepted.{taken, fitting}
 use Rattle.demands.proofs.Soundness.{sound-kept}
 
@@ -40,41 +42,49 @@ use Rattle.demands.proofs.Soundness.{sound-kept}
 abbrev pub left : Change → Record
 left c = orElseBlank blank (leaves c)
 
-answered-left : (c : Change) → answeredBy (Keyed c) ≡ left c .requirement
+answered-left : (c : Change) → answeredBy c ≡ left c .requirement
 unfolding orElseBlank
 answered-left (Add r) = refl
 answered-left (Rebid was r) = refl
 answered-left (Advance r) = refl
 answered-left (Remove k) = refl
+answered-left (AddPending r) = refl
 
-here-by : (b : Book) (m : Message) (c : Change) → sound b ≡ true → Fits (lookup b (keyOf m)) m (Keyed c) → None (creditRows (totals b) (Keyed c))
-    → lookup (done b (Keyed c)) (keyOf m) ≡ left c
-unfolding lookup done
-here-by b m c s f w = ap (orElseBlank blank) (effect b m c s f w .here)
+module _ (b : Book) (m : Message) (ms : List ℕ) (ps : List ℤ) where
+  here-by : (c : Change) → sound b ≡ true → Fits (lookup b (keyOf m)) m (Keyed c) → None (bookRows b ms (Keyed c)) → lookup (done b ms ps (Keyed c)) (keyOf m) ≡ left c
+  unfolding lookup done
+  here-by c s f w = ap (orElseBlank blank) (effect b m c s f w .here)
 
-there-by : (b : Book) (m : Message) (d : Deed) → sound b ≡ true → Fits (lookup b (keyOf m)) m d → None (creditRows (totals b) d)
-    → (l : Key) → sameKey (keyOf m) l ≡ false → lookup (done b d) l ≡ lookup b l
-unfolding lookup done
-there-by b m (Keyed c) s f w l h = ap (orElseBlank blank) (effect b m c s f w .there l h)
-there-by b m (SetSupport z) s f w l h = refl
+  there-by : (d : Deed) → closes m ≡ false → sound b ≡ true → Fits (lookup b (keyOf m)) m d → None (bookRows b ms d)
+      → (l : Key) → sameKey (keyOf m) l ≡ false → lookup (done b ms ps d) l ≡ lookup b l
+  unfolding lookup done
+  there-by (Keyed c) n s f w l h = ap (orElseBlank blank) (effect b m c s f w .there l h)
+  there-by (SetSupport z) n s f w l h = refl
+  there-by (CloseHour hour) n s f w l h = never (sym n ∙ ap closes (f .is))
 
-module _ (b : Book) (m : Message) (ms : List ℕ) (ps : List ℤ) (ok : replied b m ms ps .number ≡ 0) where
-  abbrev next : Book
-  next = nextBook b m ms ps
+  module _ (ok : replied b m ms ps .number ≡ 0) where
+    abbrev next : Book
+    next = nextBook b m ms ps
 
-  pub others-kept : (l : Key) → sameKey (keyOf m) l ≡ false → lookup next l ≡ lookup b l
-  others-kept l h =
-      let k = taken b m ms ps ok in
-      ap (λ (x : Book). lookup x l) (k .next) ∙ there-by b m (deedOf b m ms ps) (k .sane) (fitting b m ms ps k) (k .weighed) l h
+    pub others-kept : closes m ≡ false → (l : Key) → sameKey (keyOf m) l ≡ false → lookup next l ≡ lookup b l
+    others-kept n l h =
+        let k = taken b m ms ps ok in
+        ap (λ (x : Book). lookup x l) (k .next) ∙ there-by (deedOf b m ms ps) n (k .sane) (fitting b m ms ps k) (k .weighed) l h
 
-  here : (c : Change) → deedOf b m ms ps ≡ Keyed c → lookup next (keyOf m) ≡ left c
-  here c e =
-      let k = taken b m ms ps ok in
-      ap (λ (x : Book). lookup x (keyOf m)) (k .next ∙ ap (done b) e)
-      ∙ here-by b m c (k .sane) (subst (Fits (lookup b (keyOf m)) m) e (fitting b m ms ps k)) (subst (λ (d : Deed). None (creditRows (totals b) d)) e (k .weighed))
+    here : (c : Change) → deedOf b m ms ps ≡ Keyed c → lookup next (keyOf m) ≡ left c
+    here c e =
+        let k = taken b m ms ps ok in
+        ap (λ (x : Book). lookup x (keyOf m)) (k .next ∙ ap (done b ms ps) e)
+        ∙ here-by c (k .sane) (subst (Fits (lookup b (keyOf m)) m) e (fitting b m ms ps k)) (subst (λ (d : Deed). None (bookRows b ms d)) e (k .weighed))
 
-  answered-here : (c : Change) → deedOf b m ms ps ≡ Keyed c → answeredBy (deedOf b m ms ps) ≡ lookup next (keyOf m) .requirement
-  answered-here c e = ap answeredBy e ∙ answered-left c ∙ sym (ap (λ (r : Record). r .requirement) (here c e))
+    -- the requirement that is answered to what is asked for
+    answered : (d : Deed) → deedOf b m ms ps ≡ d → replied b m ms ps .requirement ≡ reply (answerTo b ms ps d (held next) (owed next)) .requirement
+    answered d e =
+        ap (λ (a : Answer). reply a .requirement) (taken b m ms ps ok .answer) ∙ ap (λ (x : Deed). reply (answerTo b ms ps x (held next) (owed next)) .requirement) e
+
+    answered-here : (c : Change) → deedOf b m ms ps ≡ Keyed c → replied b m ms ps .requirement ≡ lookup next (keyOf m) .requirement
+    unfolding answerTo
+    answered-here c e = answered (Keyed c) e ∙ answered-left c ∙ sym (ap (λ (r : Record). r .requirement) (here c e))
 
 -- ---- each message, at the stage and with the requirement that 01 says
 
@@ -85,7 +95,7 @@ unnamed b h =
 
 module _ (b : Book) (ms : List ℕ) (ps : List ℤ) where
   -- support: the support is the amount given
-  pub support-sets : (s : Funding) → replied b (Support s) ms ps .number ≡ 0 → nextBook b (Support s) ms ps ≡ done b (SetSupport (s .cents))
+  pub support-sets : (s : Funding) → replied b (Support s) ms ps .number ≡ 0 → nextBook b (Support s) ms ps ≡ done b ms ps (SetSupport (s .cents))
   unfolding deedOf
   support-sets s ok = taken b (Support s) ms ps ok .next
 
@@ -106,18 +116,24 @@ module _ (b : Book) (ms : List ℕ) (ps : List ℤ) where
   sets (Bill x) ok = here b (Bill x) ms ps ok _ refl
   sets (Pay k) ok = here b (Pay k) ms ps ok _ refl
   sets (Support s) ok = unnamed (nextBook b (Support s) ms ps) (sound-kept b (Support s) ms ps (taken b (Support s) ms ps ok .sane))
+  sets (OpenCurves c) ok =
+      here b (OpenCurves c) ms ps ok _ refl ∙ ap (pendingRecord (c .key)) (intervals-is (lookup b (c .key)) c ms ps (taken b (OpenCurves c) ms ps ok .planned))
+  sets (ReviseCurves c) ok =
+      let k = taken b (ReviseCurves c) ms ps ok in
+      here b (ReviseCurves c) ms ps ok _ refl ∙ ap (pendingRecord (c .key)) (revised-intervals-is (lookup b (c .key)) c ms ps (lookup-under b (c .key) (k .sane)) (k .planned))
+  sets (Close c) ok = unnamed (nextBook b (Close c) ms ps) (sound-kept b (Close c) ms ps (taken b (Close c) ms ps ok .sane))
 
   -- what is answered stands under the key
-  stands : (m : Message) → replied b m ms ps .number ≡ 0 → answeredBy (deedOf b m ms ps) ≡ lookup (nextBook b m ms ps) (keyOf m) .requirement
-  unfolding deedOf
-  stands (Open o) ok = answered-here b (Open o) ms ps ok _ refl
-  stands (Revise o) ok = answered-here b (Revise o) ms ps ok _ refl
-  stands (Withdraw k) ok = answered-here b (Withdraw k) ms ps ok _ refl
-  stands (Post p) ok = answered-here b (Post p) ms ps ok _ refl
-  stands (Finish f) ok = answered-here b (Finish f) ms ps ok _ refl
-  stands (Bill x) ok = answered-here b (Bill x) ms ps ok _ refl
-  stands (Pay k) ok = answered-here b (Pay k) ms ps ok _ refl
-  stands (Support s) ok = sym (ap (λ (r : Record). r .requirement) (sets (Support s) ok))
-
-  pub answers : (m : Message) → replied b m ms ps .number ≡ 0 → replied b m ms ps .requirement ≡ lookup (nextBook b m ms ps) (keyOf m) .requirement
-  answers m ok = taken b m ms ps ok .requirement ∙ stands m ok
+  pub answers : (m : Message) → replied b m ms ps .number ≡ 0 → closes m ≡ false → replied b m ms ps .requirement ≡ lookup (nextBook b m ms ps) (keyOf m) .requirement
+  unfolding deedOf answerTo
+  answers (Open o) ok n = answered-here b (Open o) ms ps ok _ refl
+  answers (Revise o) ok n = answered-here b (Revise o) ms ps ok _ refl
+  answers (Withdraw k) ok n = answered-here b (Withdraw k) ms ps ok _ refl
+  answers (Post p) ok n = answered-here b (Post p) ms ps ok _ refl
+  answers (Finish f) ok n = answered-here b (Finish f) ms ps ok _ refl
+  answers (Bill x) ok n = answered-here b (Bill x) ms ps ok _ refl
+  answers (Pay k) ok n = answered-here b (Pay k) ms ps ok _ refl
+  answers (Support s) ok n = answered b (Support s) ms ps ok _ refl ∙ sym (ap (λ (r : Record). r .requirement) (sets (Support s) ok))
+  answers (OpenCurves c) ok n = answered-here b (OpenCurves c) ms ps ok _ refl
+  answers (ReviseCurves c) ok n = answered-here b (ReviseCurves c) ms ps ok _ refl
+  answers (Close c) ok n = never (sym n)

@@ -28,7 +28,7 @@ use Rattle.demands.proofs.Accepted.{taken, fitting}
 kept-by : (b : Book) (m : Message) (ms : List ℕ) (ps : List ℤ) (t : Bool) → eqb (replied b m ms ps .number) 0 ≡ t → sound b ≡ true → sound (step b m ms ps .book) ≡ true
 kept-by b m ms ps true e h =
     let k = taken b m ms ps (eqb-true (replied b m ms ps .number) 0 e) in
-    subst (λ (x : Book). sound x ≡ true) (sym (k .next)) (done-sound b m (deedOf b m ms ps) h (fitting b m ms ps k) (k .weighed))
+    subst (λ (x : Book). sound x ≡ true) (sym (k .next)) (done-sound b m ms ps (deedOf b m ms ps) h (fitting b m ms ps k) (k .weighed))
 kept-by b m ms ps false e h =
     subst (λ (x : Book). sound x ≡ true) (sym (unchanged b m ms ps (eqb-false (replied b m ms ps .number) 0 e) .book)) h
 

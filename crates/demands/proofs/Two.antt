@@ -1,38 +1,44 @@
 -- Demand 2: what an accepted message sets, and what is read of a book's sums.
 -- Assumes nothing.
 use mathlib.Core.Path.{_≡_, refl, sym, ap, ap₂, _∙_, subst}
-use mathlib.Core.Bool.{true}
+use mathlib.Core.Bool.{true, false}
 use mathlib.Core.List.{List, [], _∷_}
 use mathlib.Core.Logic.{_↔_}
 use Prim.Native.Nat.{ℕ}
-use lib.Dec.{T}
+use lib.Dec.{T, eqb}
 use lib.IntN.{ℤ, pos, _+ℤ_, _*ℤ_}
 use lib.Signed.{leZ, _≤ℤ_, leZ-yes}
+use borrow.Author.Tests.{eqb-true, eqb-false}
 use Rattle.amounts.specs.Lists.{sum, total, every}
 use Rattle.amounts.proofs.Signed.{tested}
-use Rattle.refusals.proofs.Laws.{and-left, and-right}
+use Rattle.refusals.specs.Answers.{reply}
+use Rattle.refusals.specs.declared.Answer.{Answer}
+use Rattle.refusals.proofs.Laws.{never, and-left, and-right}
 use Rattle.records.specs.declared.types.Record.{Record}
 use Rattle.records.specs.Records.{isFree, okPlace}
 use Rattle.records.proofs.Places.{place-free}
 use Rattle.messages.specs.declared.types.Message.{Message}
-use Rattle.messages.specs.declared.types.Message.the-variants.{Open, Revise, Withdraw, Post, Finish, Bill, Pay, Support}
+use Rattle.messages.specs.declared.types.Message.the-variants.{Open, Revise, Withdraw, Post, Finish, Bill, Pay, Support, OpenCurves, ReviseCurves, Close}
 use Rattle.messages.specs.declared.types.Funding.{Funding}
+use Rattle.messages.specs.declared.types.Closing.{Closing}
 use Rattle.credit.specs.Credit.{owes, suspended}
 use Rattle.book.specs.declared.types.Book.{Book}
 use Rattle.book.specs.Books.{sound, held, owed, totals, suspendedShown, noRecords, empty}
-use Rattle.book.specs.Step.{deedOf, done}
+use Rattle.book.specs.Step.{deedOf, done, answerTo}
 use Rattle.book.proofs.Kept.{sound-places, kept-owed}
 use Rattle.demands.specs.Runs.{nextBook, replied}
-use Rattle.demands.specs.Two.{supportSet, holds, Acceptance, DemandTwo}
+use Rattle.demands.specs.Two.{supportSet, closes, holds, Acceptance, Closure, DemandTwo}
+use Rattle.demands.proofs.Answers.{unchanged}
 use Rattle.demands.proofs.Accepted.{taken}
 use Rattle.demands.proofs.Soundness.{empty-sound}
 use Rattle.demands.proofs.Requirements.{sets, others-kept, support-sets, answers}
+use Rattle.demands.proofs.Closures.{closure}
 
 -- ---- an acceptance
 
 module _ (b : Book) (ms : List ℕ) (ps : List ℤ) where
   -- the support is set by what is asked for
-  funded : (m : Message) → totals (done b (deedOf b m ms ps)) .support ≡ supportSet (totals b .support) m
+  funded : (m : Message) → totals (done b ms ps (deedOf b m ms ps)) .support ≡ supportSet (totals b .support) m
   unfolding deedOf done totals
   funded (Open o) = refl
   funded (Revise o) = refl
@@ -42,6 +48,9 @@ module _ (b : Book) (ms : List ℕ) (ps : List ℤ) where
   funded (Bill x) = refl
   funded (Pay k) = refl
   funded (Support s) = refl
+  funded (OpenCurves c) = refl
+  funded (ReviseCurves c) = refl
+  funded (Close c) = refl
 
   placed : (m : Message) → replied b m ms ps .number ≡ 0 → (s : Funding) → m ≡ Support s → nextBook b m ms ps .records ≡ b .records
   unfolding done
@@ -61,6 +70,33 @@ module _ (b : Book) (ms : List ℕ) (ps : List ℤ) where
         held = k .held;
         owed = k .owed;
       }
+
+  -- ---- a close, and what removes no batch
+
+  closed-hour : (m : Message) (c : Closing) → m ≡ Close c → replied b m ms ps .number ≡ 0 → Closure b c ms ps
+  closed-hour m c e ok = closure b c ms ps (subst (λ (x : Message). replied b x ms ps .number ≡ 0) e ok)
+
+  -- what is asked for of one transaction, or of the support, says nothing of a batch
+  answer-kept : (m : Message) → closes m ≡ false → (h o : ℤ) → reply (answerTo b ms ps (deedOf b m ms ps) h o) .removed ≡ false
+  unfolding deedOf answerTo
+  answer-kept (Open o) n h w = refl
+  answer-kept (Revise o) n h w = refl
+  answer-kept (Withdraw k) n h w = refl
+  answer-kept (Post p) n h w = refl
+  answer-kept (Finish f) n h w = refl
+  answer-kept (Bill x) n h w = refl
+  answer-kept (Pay k) n h w = refl
+  answer-kept (Support s) n h w = refl
+  answer-kept (OpenCurves c) n h w = refl
+  answer-kept (ReviseCurves c) n h w = refl
+  answer-kept (Close c) n h w = never (sym n)
+
+  unremoved : (m : Message) → closes m ≡ false → replied b m ms ps .removed ≡ false
+  unremoved m n =
+      let number = replied b m ms ps .number in
+      tested (eqb number 0)
+      (λ e. ap (λ (a : Answer). reply a .removed) (taken b m ms ps (eqb-true number 0 e) .answer) ∙ answer-kept m n _ _)
+      (λ e. unchanged b m ms ps (eqb-false number 0 e) .removed)
 
 -- ---- held, over the open transactions
 
@@ -102,6 +138,8 @@ pub demand-two : (b : Book) (m : Message) (mwhs : List ℕ) (prices : List ℤ) 
 demand-two b m ms ps =
     record {
       accepted = acceptance b ms ps m;
+      closed-hour = closed-hour b ms ps m;
+      unremoved = unremoved b ms ps m;
       summed = held-open b;
       suspension = suspends b;
       shown = shows b;

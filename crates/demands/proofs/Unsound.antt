@@ -1,74 +1,65 @@
--- Refusal 1 is the book's alone: no row that concerns the message or the totals has its number.
+-- Refusal 1 is the book's alone: no row that concerns the message, the totals or the places has its number.
 -- Assumes nothing.
 use mathlib.Core.Path.{_≡_, refl, sym, ap, _∙_}
-use mathlib.Core.Bool.{Bool, true, false, not, cond, _&&_}
-use mathlib.Core.List.{List, [], _∷_, _++_}
+use mathlib.Core.Bool.{Bool, true, false, not, cond}
+use mathlib.Core.List.{List, _++_}
 use Prim.Native.Nat.{ℕ}
 use native.Mathlib.Omega.{arith}
-use lib.Dec.{eqb}
 use lib.IntN.{ℤ}
-use borrow.Author.Tests.{eq-eqb}
 use Rattle.amounts.proofs.Signed.{tested}
-use Rattle.refusals.specs.Refusals.{Row, first}
-use Rattle.refusals.proofs.Laws.{and-left, and-right, and-both, never}
+use Rattle.refusals.specs.Refusals.{first}
 use Rattle.bids.specs.Rows.{pointRows, bidRows}
 use Rattle.deliveries.specs.Rows.{deliveryRows, billRows}
 use Rattle.keys.specs.Keys.{keyRows}
+use Rattle.intervals.specs.Intervals.{curvesRows}
+use Rattle.closings.specs.Closings.{closeRows}
 use Rattle.records.specs.declared.types.Record.{Record}
 use Rattle.messages.specs.declared.types.Message.{Message}
-use Rattle.messages.specs.declared.types.Message.the-variants.{Open, Revise, Withdraw, Post, Finish, Bill, Pay, Support}
-use Rattle.messages.specs.declared.types.Change.the-variants.{Add, Rebid, Advance, Remove}
+use Rattle.messages.specs.declared.types.Message.the-variants.{Open, Revise, Withdraw, Post, Finish, Bill, Pay, Support, OpenCurves, ReviseCurves, Close}
+use Rattle.messages.specs.declared.types.Change.the-variants.{Add, Rebid, Advance, Remove, AddPending}
 use Rattle.messages.specs.declared.types.Deed.{Deed}
-use Rattle.messages.specs.declared.types.Deed.the-variants.{Keyed, SetSupport}
+use Rattle.messages.specs.declared.types.Deed.the-variants.{Keyed, SetSupport, CloseHour}
 use Rattle.messages.specs.Plan.{keyOf, stageRows, planRows}
 use Rattle.credit.specs.declared.types.Totals.{Totals}
 use Rattle.credit.specs.Credit.{creditRows}
+use Rattle.batches.specs.Batches.{batchRows}
 use Rattle.book.specs.declared.types.Book.{Book}
 use Rattle.book.specs.Books.{lookup, sound, totals}
-use Rattle.book.proofs.Verdicts.{table-parts}
+use Rattle.book.proofs.Verdicts.{bookRows, table-parts}
 use Rattle.book.specs.Step.{deedOf}
 use Rattle.demands.specs.Runs.{replied}
 use Rattle.demands.proofs.Answers.{number-is}
+use Rattle.demands.proofs.Lacking.{lacks, lacks-append, lacks-first}
 
--- no row has the number 1; a test that is computed, whatever the rows say
-unfoldable others : List Row → Bool
-others [] = true
-others (r ∷ rs) = not (eqb (r .number) 1) && others rs
+plan-lacks : (old : Record) (m : Message) (ms : List ℕ) (ps : List ℤ) → lacks 1 (planRows old m ms ps) ≡ true
+unfolding lacks keyRows stageRows pointRows bidRows deliveryRows billRows curvesRows closeRows
+plan-lacks old (Open o) ms ps = refl
+plan-lacks old (Revise o) ms ps = refl
+plan-lacks old (Withdraw k) ms ps = refl
+plan-lacks old (Post p) ms ps = refl
+plan-lacks old (Finish f) ms ps = refl
+plan-lacks old (Bill b) ms ps = refl
+plan-lacks old (Pay k) ms ps = refl
+plan-lacks old (Support s) ms ps = refl
+plan-lacks old (OpenCurves c) ms ps = refl
+plan-lacks old (ReviseCurves c) ms ps = refl
+plan-lacks old (Close c) ms ps = refl
 
-others-append : (xs ys : List Row) → others xs ≡ true → others ys ≡ true → others (xs ++ ys) ≡ true
-unfolding others
-others-append [] ys h k = k
-others-append (r ∷ xs) ys h k =
-    and-both (not (eqb (r .number) 1)) (others (xs ++ ys)) (and-left (not (eqb (r .number) 1)) (others xs) h) (others-append xs ys (and-right (not (eqb (r .number) 1)) (others xs) h) k)
+credit-lacks : (t : Totals) (d : Deed) → lacks 1 (creditRows t d) ≡ true
+unfolding lacks
+credit-lacks t (Keyed (Add r)) = refl
+credit-lacks t (Keyed (Rebid was r)) = refl
+credit-lacks t (Keyed (Advance r)) = refl
+credit-lacks t (Keyed (Remove k)) = refl
+credit-lacks t (Keyed (AddPending r)) = refl
+credit-lacks t (SetSupport support) = refl
+credit-lacks t (CloseHour hour) = refl
 
-other-by : (t : Bool) (r : Row) (rs : List Row) → not (eqb (r .number) 1) ≡ true → (first rs ≡ 1 → ⊥) → cond t (r .number) (first rs) ≡ 1 → ⊥
-other-by true r rs h ih e = never (sym (ap not (eq-eqb (r .number) 1 e)) ∙ h)
-other-by false r rs h ih e = ih e
-
-other-first : (rs : List Row) → others rs ≡ true → first rs ≡ 1 → ⊥
-unfolding others first
-other-first [] h e = omega arith
-other-first (r ∷ rs) h e =
-    other-by (r .applies) r rs (and-left (not (eqb (r .number) 1)) (others rs) h) (other-first rs (and-right (not (eqb (r .number) 1)) (others rs) h)) e
-
-plan-others : (old : Record) (m : Message) (ms : List ℕ) (ps : List ℤ) → others (planRows old m ms ps) ≡ true
-unfolding others keyRows stageRows pointRows bidRows deliveryRows billRows
-plan-others old (Open o) ms ps = refl
-plan-others old (Revise o) ms ps = refl
-plan-others old (Withdraw k) ms ps = refl
-plan-others old (Post p) ms ps = refl
-plan-others old (Finish f) ms ps = refl
-plan-others old (Bill b) ms ps = refl
-plan-others old (Pay k) ms ps = refl
-plan-others old (Support s) ms ps = refl
-
-credit-others : (t : Totals) (d : Deed) → others (creditRows t d) ≡ true
-unfolding others
-credit-others t (Keyed (Add r)) = refl
-credit-others t (Keyed (Rebid was r)) = refl
-credit-others t (Keyed (Advance r)) = refl
-credit-others t (Keyed (Remove k)) = refl
-credit-others t (SetSupport support) = refl
+book-lacks : (b : Book) (ms : List ℕ) (d : Deed) → lacks 1 (bookRows b ms d) ≡ true
+unfolding lacks batchRows
+book-lacks b ms (Keyed c) = credit-lacks (totals b) (Keyed c)
+book-lacks b ms (SetSupport support) = credit-lacks (totals b) (SetSupport support)
+book-lacks b ms (CloseHour hour) = refl
 
 module _ (b : Book) (m : Message) (ms : List ℕ) (ps : List ℤ) where
   pub unsound-one : sound b ≡ false → replied b m ms ps .number ≡ 1
@@ -80,8 +71,8 @@ module _ (b : Book) (m : Message) (ms : List ℕ) (ps : List ℤ) where
   unfolding first
   sound-other h s =
       let p = planRows (lookup b (keyOf m)) m ms ps in
-      let w = creditRows (totals b) (deedOf b m ms ps) in
-      other-first (p ++ w) (others-append p w (plan-others (lookup b (keyOf m)) m ms ps) (credit-others (totals b) (deedOf b m ms ps)))
+      let w = bookRows b ms (deedOf b m ms ps) in
+      lacks-first 1 (λ z. omega arith) (p ++ w) (lacks-append 1 p w (plan-lacks (lookup b (keyOf m)) m ms ps) (book-lacks b ms (deedOf b m ms ps)))
       (sym (ap (λ (t : Bool). cond (not t) 1 (first (p ++ w))) s) ∙ sym (ap first (table-parts b m ms ps)) ∙ sym (number-is b m ms ps) ∙ h)
 
   pub one-unsound : replied b m ms ps .number ≡ 1 → sound b ≡ false

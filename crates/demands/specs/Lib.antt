@@ -2,5 +2,6 @@ pub mod Runs
 pub mod One
 pub mod Two
 pub mod OrderOne
+pub mod OrderThree
 pub mod Three
 pub mod Joining

@@ -24,6 +24,8 @@ pub record Refusal (b next : Book) (answer : Reply) : Type 0 where
   pub requirement : answer .requirement ≡ pos 0
   pub held : answer .held ≡ cond (sound b) (held b) (pos 0)
   pub owed : answer .owed ≡ cond (sound b) (owed b) (pos 0)
+  -- 02, order 3: a batch is removed by an acceptance alone
+  pub removed : answer .removed ≡ false
 
 module _ (b : Book) (m : Message) (mwhs : List ℕ) (prices : List ℤ) where
   abbrev next : Book

@@ -1,5 +1,6 @@
 -- Demand 3: 'Any run that a fresh book accepted in full can be dealt, without its support changes, between two fresh books at the top support,
 -- transaction by transaction: neither refuses, each transaction ends at the stage and requirement it had, the two held amounts add up.'
+-- 02, order 3: 'Demand 3 then speaks of runs where no batch was removed, with all kind 5 keys of an hour dealt to the same book'.
 -- The theorem is demand-three, proofs/Three.antt; the joining of export points is Joining.antt.
 -- Assumes nothing.
 use mathlib.Core.Path.{_≡_}
@@ -10,8 +11,10 @@ use lib.IntN.{ℤ, pos, _+ℤ_}
 use Rattle.keys.specs.declared.Key.{Key}
 use Rattle.keys.specs.Keys.{sameKey}
 use Rattle.records.specs.Records.{blank}
+use Rattle.kinds.specs.Kinds.{quarterHour}
 use Rattle.messages.specs.declared.types.Message.{Message}
-use Rattle.messages.specs.declared.types.Message.the-variants.{Open, Revise, Withdraw, Post, Finish, Bill, Pay, Support}
+use Rattle.messages.specs.declared.types.Closing.{Closing}
+use Rattle.messages.specs.declared.types.Message.the-variants.{Open, Revise, Withdraw, Post, Finish, Bill, Pay, Support, OpenCurves, ReviseCurves, Close}
 use Rattle.messages.specs.Plan.{keyOf, opens}
 use Rattle.book.specs.declared.types.Book.{Book}
 use Rattle.book.specs.Books.{lookup, held, owed}
@@ -25,6 +28,11 @@ use Rattle.demands.specs.Runs.{Sent, sentTo, after}
 unfoldable pub Accepted : Book → List Sent → Type 0
 Accepted b [] = Unit {0}
 Accepted b (x ∷ xs) = (reply (sentTo b x .answer) .number ≡ 0) × Accepted (sentTo b x .book) xs
+
+-- 02, order 3: no batch was removed
+unfoldable pub Unremoved : Book → List Sent → Type 0
+Unremoved b [] = Unit {0}
+Unremoved b (x ∷ xs) = (reply (sentTo b x .answer) .removed ≡ false) × Unremoved (sentTo b x .book) xs
 
 -- 01: 'Acceptance answers the key's requirement ..'
 abbrev pub requirementOf : Book → Sent → ℤ
@@ -45,7 +53,7 @@ unfoldable pub whole : List Dealt → List Sent
 whole [] = []
 whole (x ∷ xs) = x .sent ∷ whole xs
 
--- 01, Turned away: 'keyed messages'. A support change is about no transaction
+-- 01, Turned away: 'keyed messages'. A support change is about no transaction, and a close about an hour's
 abbrev pub keyed : Message → Bool
 keyed (Open o) = true
 keyed (Revise o) = true
@@ -55,10 +63,27 @@ keyed (Finish f) = true
 keyed (Bill b) = true
 keyed (Pay k) = true
 keyed (Support s) = false
+keyed (OpenCurves c) = true
+keyed (ReviseCurves c) = true
+keyed (Close c) = false
+
+-- what is dealt: every message but a support change
+abbrev pub isDealt : Message → Bool
+isDealt (Open o) = true
+isDealt (Revise o) = true
+isDealt (Withdraw k) = true
+isDealt (Post p) = true
+isDealt (Finish f) = true
+isDealt (Bill b) = true
+isDealt (Pay k) = true
+isDealt (Support s) = false
+isDealt (OpenCurves c) = true
+isDealt (ReviseCurves c) = true
+isDealt (Close c) = true
 
 -- what the side s is sent: the messages that are dealt to it, with support changes left out
 abbrev pub goes : Bool → Dealt → Bool
-goes s x = keyed (x .sent .message) && Bool·beq s (x .side)
+goes s x = isDealt (x .sent .message) && Bool·beq s (x .side)
 
 unfoldable pub part : Bool → List Dealt → List Sent
 part s [] = []
@@ -75,13 +100,17 @@ unfoldable pub owners : (Key → Bool) → List Dealt → Key → Bool
 owners o [] = o
 owners o (x ∷ xs) = owners (owner o x) xs
 
--- a keyed message that opens nothing goes where its key's latest open went
-unfoldable pub Follows : (Key → Bool) → Dealt → Type 0
-Follows o x = keyed (x .sent .message) ≡ true → opens (x .sent .message) ≡ false → x .side ≡ o (keyOf (x .sent .message))
+-- `h` says whose the quarter-hour bids of each hour are
+pub record Follows (o : Key → Bool) (h : ℕ → Bool) (x : Dealt) : Type 0 where
+  -- a keyed message that opens nothing goes where its key's latest open went
+  pub later : keyed (x .sent .message) ≡ true → opens (x .sent .message) ≡ false → x .side ≡ o (keyOf (x .sent .message))
+  -- 02, order 3: 'all kind 5 keys of an hour dealt to the same book', and a close of that hour goes there
+  pub quarters : opens (x .sent .message) ≡ true → keyOf (x .sent .message) .kind ≡ quarterHour → x .side ≡ h (keyOf (x .sent .message) .hour)
+  pub closing : (c : Closing) → x .sent .message ≡ Close c → x .side ≡ h (c .hour)
 
-unfoldable pub Fair : (Key → Bool) → List Dealt → Type 0
-Fair o [] = Unit {0}
-Fair o (x ∷ xs) = Follows o x × Fair (owner o x) xs
+unfoldable pub Fair : (Key → Bool) → (ℕ → Bool) → List Dealt → Type 0
+Fair o h [] = Unit {0}
+Fair o h (x ∷ xs) = Follows o h x × Fair (owner o x) h xs
 
 -- ---- the three books
 
@@ -106,6 +135,8 @@ pub record DemandThree (o : Key → Bool) (z : ℤ) (xs : List Dealt) : Type 0 w
   -- neither refuses anything
   pub begun : reply (fresh (pos topSupport) .answer) .number ≡ 0
   pub taken : (s : Bool) → Accepted (fresh (pos topSupport) .book) (part s xs)
+  -- and neither removes a batch
+  pub unremoved : (s : Bool) → Unremoved (fresh (pos topSupport) .book) (part s xs)
   -- each answered requirement is the whole book's
   pub answers : (s : Bool) → requirements (fresh (pos topSupport) .book) (part s xs) ≡ requirementsTo s (fresh z .book) xs
   -- under every key, the side that has its transaction has the whole book's record, and the other has none
