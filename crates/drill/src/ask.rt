@@ -1,13 +1,19 @@
 // What a turn asks of the book: its message, from the draws and the record at the place that was drawn.
 ghost use Prim.Native.Nat.{_<_};
+use crate::closings;
+use crate::closings::Listing;
 use crate::generator;
 use crate::generator::draw;
 use crate::generator::has;
+use crate::points;
+use crate::points::Lengths;
 use crate::values;
 use crate::values::either;
 use crate::values::one_of;
 use crate::values::one_of_cents;
 use book::Billing;
+use book::Closing;
+use book::Curves;
 use book::Finishing;
 use book::Funding;
 use book::Key;
@@ -28,6 +34,10 @@ pub(crate) struct Ask {
     pub(crate) price: i64,
     pub(crate) second: i64,
     pub(crate) cents: i64,
+    // How many points each interval has, and how long the two lists are; of a close, what it lists, and how many bids of its hour are pending.
+    pub(crate) lengths: Lengths,
+    pub(crate) listing: Listing,
+    pub(crate) pending: u64,
 }
 
 // The messages by number.
@@ -47,6 +57,25 @@ impl Ask {
     pub(crate) const PAY: u64 = 7;
 
     pub(crate) const SUPPORT: u64 = 8;
+
+    pub(crate) const OPEN_CURVES: u64 = 9;
+
+    pub(crate) const REVISE_CURVES: u64 = 10;
+
+    pub(crate) const CLOSE: u64 = 11;
+}
+
+pub(crate) fn opens(message: u64) -> bool {
+    (message == Ask::OPEN) | (message == Ask::OPEN_CURVES)
+}
+
+pub(crate) fn has_curves(message: u64) -> bool {
+    (message == Ask::OPEN_CURVES) | (message == Ask::REVISE_CURVES)
+}
+
+// An open or a revise, of either form.
+pub(crate) fn bids(message: u64) -> bool {
+    (message <= Ask::REVISE) | has_curves(message)
 }
 
 // How the book stands when a message is drawn: the season of the run, its open records, and what it last answered. `again`: the
@@ -85,7 +114,11 @@ fn onward(r: Record) -> u64 {
         1 => pick(
             r.key.kind == Kind::HOUR_AHEAD_EXPORT,
             Ask::FINISH,
-            Ask::POST,
+            pick(
+                r.key.kind == Kind::QUARTER_HOUR_EXPORT,
+                Ask::CLOSE,
+                Ask::POST,
+            ),
         ),
         2 => Ask::FINISH,
         3 => Ask::BILL,
@@ -94,7 +127,9 @@ fn onward(r: Record) -> u64 {
 }
 
 fn message_of(w: u64, now: Standing, r: Record) -> u64 {
-    let any = w / 2 % 8 + 1;
+    let drawn = w / 2 % 9 + 1;
+    let any = pick(drawn == 9, Ask::CLOSE, drawn);
+    let fills = now.season == Standing::FILLS;
     let empties = now.season == Standing::EMPTIES;
     let many = empties & (3 <= now.open);
     let leaves = empties & (r.stage == Stage::BID);
@@ -103,20 +138,35 @@ fn message_of(w: u64, now: Standing, r: Record) -> u64 {
         Ask::SUPPORT,
         pick(leaves, Ask::WITHDRAW, onward(r)),
     );
-    let other = pick(now.season == Standing::FILLS, Ask::OPEN, led);
-    pick((w % 2 == 0) & !(many & (any == Ask::OPEN)), any, other)
+    let passed_over = (many & (any == Ask::OPEN)) | (fills & (any == Ask::CLOSE));
+    pick(
+        (w % 2 == 0) & !passed_over,
+        any,
+        pick(fills, Ask::OPEN, led),
+    )
+}
+
+// An open or a revise in the form of its kind; of the kinds that are none, every other has four curves.
+fn formed(seed: u64, message: u64, kind: u64) -> u64 {
+    let has_four = (Kind::QUARTER_HOUR_EXPORT <= kind) & (kind % 2 == 1);
+    let four = !(has_four == points::has_other_form(seed));
+    match message {
+        Ask::OPEN => pick(four, Ask::OPEN_CURVES, Ask::OPEN),
+        Ask::REVISE => pick(four, Ask::REVISE_CURVES, Ask::REVISE),
+        _ => message,
+    }
 }
 
 // Whether the key is that of the record at the place drawn: seldom for an open, mostly for the others.
 pub(crate) fn from_place(seed: u64, message: u64) -> bool {
-    (message == Ask::OPEN) == (draw(seed, generator::SOURCE) % 8 == 0)
+    opens(message) == (draw(seed, generator::SOURCE) % 8 == 0)
 }
 
 fn key_of(seed: u64, r: Record, from: bool) -> Key {
     let w = draw(seed, generator::KIND);
     let v = draw(seed, generator::PATH);
     let u = draw(seed, generator::HOUR);
-    let kind = pick(from, r.key.kind, w % 4 + 1);
+    let kind = pick(from, r.key.kind, w % 5 + 1);
     let path = pick(from, r.key.path, one_of(values::PATHS, v));
     let hour = pick(from, r.key.hour, values::hour(u));
     Key {
@@ -143,10 +193,15 @@ fn quantity_of(seed: u64, r: Record) -> u64 {
     if has(seed, 6) {
         return one_of(values::QUANTITIES_OUT, w);
     }
+    let mwh = pick(
+        r.key.kind == Kind::QUARTER_HOUR_EXPORT,
+        r.intervals.first,
+        r.mwh,
+    );
     match w % 8 {
         0 => 0,
-        1 | 2 | 3 => r.mwh,
-        4 => r.mwh % 640_000 + 1,
+        1 | 2 | 3 => mwh,
+        4 => mwh % 640_000 + 1,
         5 => 640_000,
         6 => r.schedule,
         _ => w / 8 % 10_001,
@@ -211,10 +266,21 @@ fn amount_of(seed: u64, message: u64, now: Standing) -> i64 {
     )
 }
 
+// The lengths of the lists of any message but a close.
+fn lengths_of(seed: u64, message: u64) -> Lengths {
+    if has_curves(message) {
+        return points::four_curves(seed);
+    }
+    points::one_curve(seed)
+}
+
 impl Ask {
     pub(crate) fn of(seed: u64, r: Record, now: Standing) -> Ask {
-        let message = message_of(draw(seed, generator::MESSAGE), now, r);
-        let key = key_of(seed, r, from_place(seed, message));
+        let drawn = message_of(draw(seed, generator::MESSAGE), now, r);
+        let key = key_of(seed, r, from_place(seed, drawn));
+        let message = formed(seed, drawn, key.kind);
+        let lengths = lengths_of(seed, message);
+        let listing = Listing::none();
         Ask {
             message,
             key,
@@ -224,14 +290,42 @@ impl Ask {
             price: price_of(seed, key.kind),
             second: second_of(seed, key.kind),
             cents: amount_of(seed, message, now),
+            lengths,
+            listing,
+            pending: 0,
         }
+    }
+
+    // A close, with what it lists where these are the pending bids of the hour drawn; r is the record drawn.
+    pub(crate) fn closing(self, seed: u64, pending: Listing, r: Record) -> Ask {
+        let listing = closings::listed(pending, seed, r);
+        let hour = closings::hour_named(self.key.hour, seed);
+        let prices = listing.prices(seed);
+        let mut next = self;
+        next.key.hour = hour;
+        next.lengths.numbers = listing.count;
+        next.lengths.prices = prices;
+        next.listing = listing;
+        next.pending = pending.count;
+        next
+    }
+
+    // Whether no number of the lists can be faulty: there is none.
+    pub(crate) fn lists_none(self) -> bool {
+        pick(
+            self.message == Ask::CLOSE,
+            self.lengths.prices,
+            self.lengths.numbers,
+        )
+            == 0
     }
 
     // Whether the turn sets the support for its own message first.
     pub(crate) fn is_tight(self, seed: u64, now: Standing) -> bool {
         let w = draw(seed, generator::TIGHT);
         let drawn = (w % 8 == 0) & (!(now.season == Standing::FILLS) | (w / 8 % 8 == 0));
-        (self.message <= Ask::REVISE) & !now.again & drawn
+        let can_be = (self.message <= Ask::REVISE) | (self.message == Ask::CLOSE);
+        can_be & !now.again & drawn
     }
 
     // A support message in its place, around the held amount that its own message would leave.
@@ -249,6 +343,12 @@ impl Ask {
             differential: self.differential,
             exempt: self.exempt,
         }
+    }
+
+    fn curves(self) -> Curves {
+        let key = self.key;
+        let counts = self.lengths.counts;
+        Curves { key, counts }
     }
 
     // Post, finish, bill and support.
@@ -285,6 +385,9 @@ impl Ask {
             Ask::REVISE => Message::Revise(self.opening()),
             Ask::WITHDRAW => Message::Withdraw(key),
             Ask::PAY => Message::Pay(key),
+            Ask::OPEN_CURVES => Message::OpenCurves(self.curves()),
+            Ask::REVISE_CURVES => Message::ReviseCurves(self.curves()),
+            Ask::CLOSE => Message::Close(Closing { hour: key.hour }),
             _ => self.figured(),
         }
     }

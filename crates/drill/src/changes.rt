@@ -8,11 +8,13 @@ use crate::values::moved;
 use crate::values::one_less;
 use crate::values::one_more;
 use book::Account;
+use book::Kind;
 use book::Record;
 use book::Stage;
+use refusals::pick;
 
-// Fields, 13; for each, 8 values, 6 stages (0 is a free place) and 4 kinds.
-pub(crate) const COUNT: u64 = 2_496;
+// Fields, 18; for each, 8 values, 6 stages (0 is a free place) and 5 kinds.
+pub(crate) const COUNT: u64 = 4_320;
 
 // The fields past a record's own.
 pub(crate) const SUPPORT: u64 = 11;
@@ -24,8 +26,13 @@ pub(crate) const TOTALS: u64 = 13;
 
 pub(crate) const TAMPERINGS: u64 = 16;
 
-// What each of the first 12 fields is set to, 8 values for each.
-const VALUES: [i64; 96] = [
+// The fields after those: the four interval sums, and the requirement again.
+const INTERVALS: u64 = 29;
+
+const REQUIREMENT: u64 = 33;
+
+// What each field is set to, 8 values for each.
+const VALUES: [i64; 144] = [
     // Kind.
     0,
     1,
@@ -134,27 +141,103 @@ const VALUES: [i64; 96] = [
     2_000_000_000_000_000,
     I64_MAX,
     I64_MIN,
+    // A key that stands twice has none.
+    0,
+    0,
+    0,
+    0,
+    0,
+    0,
+    0,
+    0,
+    // The four interval sums.
+    0,
+    1,
+    10_000,
+    10_001,
+    639_999,
+    640_000,
+    640_001,
+    I64_MAX,
+    0,
+    1,
+    10_000,
+    10_001,
+    639_999,
+    640_000,
+    640_001,
+    I64_MAX,
+    0,
+    1,
+    10_000,
+    10_001,
+    639_999,
+    640_000,
+    640_001,
+    I64_MAX,
+    0,
+    1,
+    10_000,
+    10_001,
+    639_999,
+    640_000,
+    640_001,
+    I64_MAX,
+    // Requirement once more.
+    1,
+    2,
+    -2,
+    19_999_999_999,
+    639_999_999_999,
+    999_999_999_999,
+    1_299_999_999_999,
+    -999_999_999_999,
 ];
 
+// The field by its row: those of the kept totals stand between.
 pub(crate) fn field(change: u64) -> u64 {
-    change / 192 % 13
+    let at = change / 240 % 18;
+    pick(at <= TWICE, at, at + INTERVALS - TOTALS)
 }
 
 pub(crate) fn value(change: u64) -> i64 {
-    VALUES[(change / 24 % 96) as usize]
+    VALUES[(change / 30 % 144) as usize]
+}
+
+fn base_stage(change: u64) -> u64 {
+    change / 5 % 6
+}
+
+fn base_kind(change: u64) -> u64 {
+    change % 5 + 1
+}
+
+// A requirement of kind 5 at stage 1.
+pub(crate) fn gives_pending_a_requirement(change: u64) -> bool {
+    let field = field(change);
+    ((field == 9) | (field == 10) | (field == REQUIREMENT))
+        & (base_kind(change) == Kind::QUARTER_HOUR_EXPORT)
+        & (base_stage(change) == Stage::BID)
 }
 
 // A sound record of each kind at each stage but 2 for kind 3; at stage 0 a free place, and at 5 one that is none.
 fn base(change: u64) -> Record {
     let mut r = Record::blank();
-    let stage = change / 4 % 6;
+    let stage = base_stage(change);
     if 0 < stage {
-        let kind = change % 4 + 1;
+        let kind = base_kind(change);
+        let four = kind == Kind::QUARTER_HOUR_EXPORT;
         r.key.kind = kind;
         r.key.path = 900;
         r.key.hour = 77;
         r.stage = stage;
-        r.mwh = 100;
+        let first = pick(four, 100, 0);
+        let third = pick(four, 1, 0);
+        let fourth = pick(four, 640_000, 0);
+        r.mwh = pick(four, 0, 100);
+        r.intervals.first = first;
+        r.intervals.third = third;
+        r.intervals.fourth = fourth;
     }
     r
 }
@@ -163,7 +246,7 @@ pub(crate) fn record(change: u64) -> Record {
     let cents = value(change);
     let v = amounts::magnitude(cents);
     let mut r = base(change);
-    match change / 192 % 13 {
+    match change / 240 % 18 {
         0 => r.key.kind = v,
         1 => r.key.path = v,
         2 => r.key.hour = v,
@@ -173,7 +256,11 @@ pub(crate) fn record(change: u64) -> Record {
         6 => r.exempt = v == 1,
         7 => r.schedule = v,
         8 => r.price = cents,
-        9 | 10 => r.requirement = cents,
+        9 | 10 | 17 => r.requirement = cents,
+        13 => r.intervals.first = v,
+        14 => r.intervals.second = v,
+        15 => r.intervals.third = v,
+        16 => r.intervals.fourth = v,
         _ => (),
     }
     r

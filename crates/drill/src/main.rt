@@ -5,9 +5,11 @@
 mod asides;
 mod ask;
 mod changes;
+mod closings;
 mod digest;
 mod generator;
 mod points;
+mod quarters;
 mod questions;
 mod report;
 mod rows;

@@ -1,6 +1,5 @@
 // What the drill prints: a line for a turn, a line for a checkpoint, and the table.
 use crate::ask::Ask;
-use crate::points;
 use crate::rows::Counts;
 use crate::rows::ROWS;
 use crate::tally::Tally;
@@ -10,8 +9,8 @@ use lines::number;
 use lines::print;
 use refusals::pick;
 
-// All that a message could be made of, whatever it is, and the lengths of the two lists.
-fn asked(ask: Ask, seed: u64) {
+// All that a message could be made of, whatever it is, the lengths of the two lists, and how many points each interval has.
+fn asked(ask: Ask) {
     number(ask.message);
     number(ask.key.kind);
     number(ask.key.path);
@@ -22,19 +21,24 @@ fn asked(ask: Ask, seed: u64) {
     cents(ask.price);
     cents(ask.second);
     cents(ask.cents);
-    number(points::mwh_count(seed) as u64);
-    number(points::price_count(seed) as u64);
+    number(ask.lengths.numbers);
+    number(ask.lengths.prices);
+    number(ask.lengths.counts.first);
+    number(ask.lengths.counts.second);
+    number(ask.lengths.counts.third);
+    number(ask.lengths.counts.fourth);
 }
 
 pub(crate) fn turn(tally: Tally, ask: Ask, answer: Answer) {
     print(b"turn");
     number(tally.turn);
-    asked(ask, tally.seed);
+    asked(ask);
     print(b" :");
     number(answer.number());
     cents(answer.requirement());
     cents(answer.held());
     cents(answer.net_owed());
+    number(pick(answer.removed(), 1, 0));
     number(tally.digest);
     print(b"\n");
 }

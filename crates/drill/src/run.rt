@@ -2,6 +2,10 @@
 use crate::asides;
 use crate::ask;
 use crate::ask::Ask;
+use crate::closings;
+use crate::points;
+use crate::quarters;
+use crate::quarters::Facts;
 use crate::questions;
 use crate::report;
 use crate::rows;
@@ -10,8 +14,10 @@ use crate::rows::ROWS;
 use crate::tally::Tally;
 use crate::trials;
 use crate::values;
+use book::Account;
 use book::Answer;
 use book::Book;
+use book::Record;
 use refusals::pick;
 
 // How many turns, which of them have a line, and the first one's seed.
@@ -22,50 +28,6 @@ pub(crate) struct Plan {
     pub(crate) seed: u64,
 }
 
-struct Step {
-    book: Book,
-    tally: Tally,
-}
-
-// What a turn sends; whether it is a support set for the turn's own message; whether its quantity is above the bid MWh of the record
-// that it names.
-struct Asked {
-    ask: Ask,
-    tight: bool,
-    above: bool,
-}
-
-fn drawn(book: Book, tally: Tally) -> Asked {
-    let now = tally.standing();
-    let at = ask::place(tally.seed, tally.open);
-    let r = book.records[at];
-    let mut ask = Ask::of(tally.seed, r, now);
-    let tight = ask.is_tight(tally.seed, now);
-    if tight {
-        ask = ask.funding(tally.seed, trials::tried(book, ask, tally.seed));
-    }
-    let above = ask::from_place(tally.seed, ask.message) & (r.mwh < ask.quantity);
-    Asked { ask, tight, above }
-}
-
-fn beside(book: Book, tally: Tally, counts: &mut Counts, ask: Ask) -> Tally {
-    let mut next = tally;
-    next.digest = questions::answered(tally.seed, tally.digest, counts);
-    if tally.turn % 8 == 7 {
-        return asides::probed_changed(book, next, counts, ask);
-    }
-    if tally.turn % 16 == 3 {
-        return asides::probed_tampered(book, next, counts, ask);
-    }
-    if tally.turn % 16 == 11 {
-        return asides::probed_rebuilt(book, next, counts, ask);
-    }
-    if tally.turn % 64 == 0 {
-        next.digest = trials::shown(book, next.digest);
-    }
-    next
-}
-
 // A line for each turn of the window, and for the last of every 4,096.
 fn print(tally: Tally, plan: Plan, ask: Ask, answer: Answer) {
     let within = (plan.from <= tally.turn) & (tally.turn < plan.to);
@@ -74,27 +36,48 @@ fn print(tally: Tally, plan: Plan, ask: Ask, answer: Answer) {
     }
 }
 
-fn turn(last: Step, counts: &mut Counts, plan: Plan) -> Step {
-    let book = last.book;
-    let tally = last.tally;
-    let asked = drawn(book, tally);
-    let ask = asked.ask;
-    let before = beside(book, tally, counts, ask);
-    let outcome = trials::sent(book, ask, tally.seed);
-    let answer = outcome.answer;
-    let next = outcome.book;
-    let noted = before.noted(
-        counts,
-        ask.message,
-        ask.key.kind,
-        answer,
-        book.account.support,
-        asked.above,
-    );
-    print(noted, plan, ask, answer);
-    Step {
-        book: next,
-        tally: noted.turned(asked.tight),
+// A turn's message, answered: whether it is a support set for the turn's own message; the record drawn, and what the book kept before; whether a batch adds nothing.
+struct Answered {
+    ask: Ask,
+    answer: Answer,
+    tight: bool,
+    record: Record,
+    account: Account,
+    adds_none: bool,
+}
+
+impl Answered {
+    // Whether the message is to name the record drawn.
+    fn named(self, seed: u64) -> bool {
+        ask::from_place(seed, self.ask.message)
+    }
+
+    fn facts(self, tally: Tally) -> Facts {
+        let record = self.record;
+        let account = self.account;
+        Facts {
+            seed: tally.seed,
+            record,
+            named: self.named(tally.seed),
+            full: tally.open == 256,
+            short: tally.is_short(account.support),
+            suspended: account.suspended(),
+            support: account.support,
+            one_short: tally.is_one_short(),
+            adds_none: self.adds_none,
+        }
+    }
+
+    // The rows that are met, the turn's line, and on to the next.
+    fn noted(self, tally: Tally, counts: &mut Counts, plan: Plan) -> Tally {
+        let ask = self.ask;
+        let answer = self.answer;
+        let account = self.account;
+        quarters::noted(counts, ask, answer, self.facts(tally));
+        let above = self.named(tally.seed) & (self.record.mwh < ask.quantity);
+        let noted = tally.noted(counts, ask, answer, account, above);
+        print(noted, plan, ask, answer);
+        noted.turned(self.tight)
     }
 }
 
@@ -121,14 +104,59 @@ fn start(counts: &mut Counts, seed: u64) -> Tally {
 
 pub(crate) fn run(plan: Plan) {
     let mut counts = [0u64; ROWS];
-    let tally = start(&mut counts, plan.seed);
-    let book = Book::fresh(values::MOST_SUPPORT).book;
-    let mut step = Step { book, tally };
+    let mut tally = start(&mut counts, plan.seed);
+    let mut book = Book::fresh(values::MOST_SUPPORT).book;
     let mut left = plan.turns;
+    // A turn is no function of its own: one that takes a book copies it.
     while 0 < left {
-        step = turn(step, &mut counts, plan);
         left -= 1;
+        let seed = tally.seed;
+        let account = book.account;
+        let at = ask::place(seed, tally.open);
+        let r = book.records[at];
+        let mut ask = Ask::of(seed, r, tally.standing());
+        if ask.message == Ask::CLOSE {
+            let pending = closings::pending(book, ask.key.hour, seed);
+            ask = ask.closing(seed, pending, r);
+        }
+        let n = trials::lent(ask.lengths.numbers);
+        let m = trials::lent(ask.lengths.prices);
+        let numbers = trials::numbers(ask, seed, n);
+        let mwh = &numbers[..n];
+        let cents = points::price_points(seed, m);
+        let prices = &cents[..m];
+        let tight = ask.is_tight(seed, tally.standing());
+        if tight {
+            let held = trials::tried(book, ask.message(), mwh, prices);
+            ask = ask.funding(seed, held);
+        }
+        tally.digest = questions::answered(seed, tally.digest, &mut counts);
+        if tally.turn % 4 == 3 {
+            tally = asides::probed(book, tally, &mut counts, ask, mwh, prices);
+        }
+        if tally.turn % 64 == 0 {
+            tally.digest = trials::shown(book, tally.digest);
+        }
+        let outcome = book.apply(ask.message(), mwh, prices);
+        let answer = outcome.answer;
+        // Whether a batch adds nothing: with the largest support held would stay as it is.
+        let mut adds_none = false;
+        if (answer.number() == 0) & (ask.message == Ask::CLOSE) {
+            let held = trials::tried(book, ask.message(), mwh, prices);
+            adds_none = held == account.held;
+        }
+        let answered = Answered {
+            ask,
+            answer,
+            tight,
+            record: r,
+            account,
+            adds_none,
+        };
+        tally = answered.noted(tally, &mut counts, plan);
+        let next = outcome.book;
+        book = next;
     }
     report::table(&counts);
-    report::named(b"messages", step.tally.messages, step.tally.digest);
+    report::named(b"messages", tally.messages, tally.digest);
 }

@@ -1,30 +1,42 @@
-// What the drill does with a book: it sends a message, tries one with the largest support, and digests all that a book holds and a screen asks.
+// What the drill does with a book beside sending it the turn's message: it tries that with the largest support, and digests all that a book holds and a screen asks.
+ghost use Prim.Native.Nat.{_≤_};
+ghost use mathlib.Core.Path.{_≡_};
+ghost use lib.ListN.{length};
 use crate::ask::Ask;
 use crate::digest::mix;
 use crate::digest::mix_cents;
-use crate::digest::mix_record;
+use crate::digest::mix_place;
 use crate::points;
 use crate::values;
 use book::Account;
 use book::Book;
-use book::Outcome;
+use book::Message;
 use refusals::pick;
 
-// The message, with the turn's points beside it.
-pub(crate) fn sent(book: Book, ask: Ask, seed: u64) -> Outcome {
-    let n = points::mwh_count(seed);
-    let m = points::price_count(seed);
-    let mwh = points::mwh_points(seed);
-    let prices = points::price_points(seed);
-    book.apply(ask.message(), &mwh[..n], &prices[..m])
+// How many of a list are lent.
+pub(crate) fn lent(count: u64) -> usize
+    ensures { λ r. ⌜ r ≤ 260 ⌝ }
+{
+    (count % 261) as usize
+}
+
+// The MWh of its points, or of a close the paths.
+pub(crate) fn numbers(ask: Ask, seed: u64, n: usize) -> [u64; 261]
+    requires { ⌜ n ≤ 260 ⌝ }
+    ensures { λ r. ⌜ length r ≡ 261 ⌝ }
+{
+    if ask.message == Ask::CLOSE {
+        return ask.listing.lent();
+    }
+    points::mwh_points(seed, n)
 }
 
 // The held amount that the message would leave with the largest support.
-pub(crate) fn tried(book: Book, ask: Ask, seed: u64) -> i64 {
+pub(crate) fn tried(book: Book, message: Message, mwh: &[u64], prices: &[i64]) -> i64 {
     let mut aside = book;
     let account = book.account.supported(values::MOST_SUPPORT);
     aside.account = account;
-    let answer = sent(aside, ask, seed).answer;
+    let answer = aside.apply(message, mwh, prices).answer;
     answer.held()
 }
 
@@ -36,15 +48,15 @@ pub(crate) fn account_mixed(account: Account, digest: u64) -> u64 {
     )
 }
 
-// All that a book holds.
+// All that a book holds: what it keeps, and each place that is not free.
 pub(crate) fn all_mixed(book: Book, digest: u64) -> u64 {
     let account = book.account;
     let mut next = account_mixed(account, digest);
     let mut i: usize = 0;
     while i < 256 {
         let r = book.records[i];
-        next = mix_record(next, r);
         i += 1;
+        next = mix_place(next, i as u64, r);
     }
     next
 }

@@ -8,7 +8,7 @@ pub(crate) const I64_MAX: i64 = 9_223_372_036_854_775_807;
 
 pub(crate) const I64_MIN: i64 = -9_223_372_036_854_775_808;
 
-const U64_MAX: u64 = 18_446_744_073_709_551_615;
+pub(crate) const U64_MAX: u64 = 18_446_744_073_709_551_615;
 
 // Whole numbers in range.
 pub(crate) const PATHS: [u64; 8] = [1, 2, 3, 4, 500, 997, 998, 999];
@@ -18,7 +18,7 @@ pub(crate) const DIFFERENTIALS: [u64; 8] = [0, 1, 1_200, 1_400, 4_000, 6_000, 99
 const POINT_MWH: [u64; 8] = [0, 1, 27, 61, 100, 500, 9_999, 10_000];
 
 // Whole numbers out of range.
-pub(crate) const KINDS_OUT: [u64; 8] = [0, 5, 6, 7, 8, 9, 10, U64_MAX];
+pub(crate) const KINDS_OUT: [u64; 8] = [0, 6, 7, 8, 9, 10, 11, U64_MAX];
 
 pub(crate) const PATHS_OUT: [u64; 8] = [0, 1_000, 1_001, 1_002, 2_000, 3_000, 4_000, U64_MAX];
 

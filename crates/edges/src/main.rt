@@ -1,6 +1,7 @@
 // Reads what is done to one book from standard input, a line at a time, and writes each line back with the book's answer: the refusal's number or 0,
-// the requirement, held and net owed, and whether the next book is the same. A message is its word and its numbers, in document 01's order, with
-// the points of an open or a revise last; other lines begin a fresh book, look at a place or at the sums (support, held, net owed), `rebuild` the book,
+// the requirement, held and net owed, whether a batch was removed, and whether the next book is the same. A message is its word and its numbers, in document 01's
+// order, with the points of an open or a revise last; `curves` and `recurves` open and revise four curves, `rows` opens four whose points are alike, `hour` closes
+// an hour, and `span` does with many paths; other lines begin a fresh book, look at a place or at the sums (support, held, net owed), `rebuild` the book,
 // or make a book that no message makes (`write` a place, `endow` with a support, `make` other totals).
 mod act;
 mod say;
@@ -44,7 +45,7 @@ fn run(text: &[u8]) {
 }
 
 fn main() {
-    let mut space = io::large_buffer();
+    let mut space = [0u8; 131_072];
     let read = io::read_full(STDIN_FILENO, &mut space);
     run(&space[..read]);
 }

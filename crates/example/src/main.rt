@@ -29,6 +29,8 @@ fn main() {
     match answer {
         Answer::Accepted { requirement, .. } => say::cents(b"requirement", requirement),
         Answer::Refused { number, .. } => say::refusal(number),
+        // Only a close answers this: the bids of its hour were too much, and are gone.
+        Answer::Removed { held, .. } => say::cents(b"removed; held", held),
     }
 
     // What a screen asks stands beside the places: it reads the account, 24 bytes, and does not hand over the book. The next message goes to `opened.book`.

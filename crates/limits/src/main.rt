@@ -1,4 +1,6 @@
 // The formulas at the limits of document 01's numbers and past them, one line each: what is asked, then the refusal's number or 0, and the amount.
+use closings::types::Quote;
+use intervals::types::Intervals;
 use libc::STDOUT_FILENO;
 use refusals::BidAnswer;
 use refusals::Figure;
@@ -149,6 +151,28 @@ fn billed(amount: i64) {
     figure(formulas::billed(amount));
 }
 
+// An interval's sum and price first, then those of the other three, which are alike.
+fn closed(mwh: u64, others: u64, price: i64, other_prices: i64) {
+    whole(b"closed MWh ", mwh);
+    whole(b" and three times ", others);
+    cents(b" prices ", price);
+    cents(b" and three times ", other_prices);
+    figure(closings::closed(
+        Intervals {
+            first: mwh,
+            second: others,
+            third: others,
+            fourth: others,
+        },
+        Quote {
+            first: price,
+            second: other_prices,
+            third: other_prices,
+            fourth: other_prices,
+        },
+    ));
+}
+
 // ---- at the limits
 
 fn main() {
@@ -166,6 +190,7 @@ fn main() {
     largest_finishes();
     deliveries();
     bills();
+    closes();
 }
 
 // The count of points, and lists of unequal length.
@@ -215,31 +240,40 @@ fn differentials() {
     posted(4, 1, 1, 0, 0);
 }
 
-// The kind; posting is not for kind 3.
+// The kind; a bid of kind 5 has four curves, and posting is not for kinds 3 and 5.
 fn kinds() {
     bid(0, 1, 1, 1, 1, 0);
     bid(5, 1, 1, 1, 1, 0);
+    bid(6, 1, 1, 1, 1, 0);
     bid(U64_MAX, 1, 1, 1, 1, 0);
     posted(0, 0, 1, 1, 0);
     posted(5, 0, 1, 1, 0);
+    posted(6, 0, 1, 1, 0);
     finished(0, 1, 1, 1, 1, 1, 0);
     finished(5, 1, 1, 1, 1, 1, 0);
+    finished(6, 1, 1, 1, 1, 1, 0);
     posted(3, 0, 0, 0, 0);
     posted(3, 0, 1, 1, 0);
 }
 
 // Where several apply, the first.
 fn first_refusals() {
-    bid(5, 0, U64_MAX, 65, I64_MIN, U64_MAX);
+    bid(6, 0, U64_MAX, 65, I64_MIN, U64_MAX);
+    bid(5, 1, U64_MAX, 1, I64_MIN, U64_MAX);
     bid(3, 1, U64_MAX, 65, I64_MIN, U64_MAX);
     bid(3, 1, U64_MAX, 1, I64_MIN, U64_MAX);
     bid(3, 1, 1, 1, I64_MIN, U64_MAX);
     bid(3, 1, 1, 1, 1, U64_MAX);
-    posted(5, U64_MAX, U64_MAX, I64_MIN, 1);
+    posted(6, U64_MAX, U64_MAX, I64_MIN, 1);
     posted(3, U64_MAX, U64_MAX, I64_MIN, 1);
     posted(3, U64_MAX, 1, 1, 1);
     posted(3, 1, 1, 1, 0);
-    finished(5, U64_MAX, I64_MIN, -1, U64_MAX, I64_MIN, 1);
+    posted(5, U64_MAX, U64_MAX, I64_MIN, 1);
+    posted(5, U64_MAX, 1, 1, 1);
+    posted(5, 1, 1, 1, 0);
+    finished(6, U64_MAX, I64_MIN, -1, U64_MAX, I64_MIN, 1);
+    finished(5, 0, 0, -1, U64_MAX, I64_MIN, 1);
+    finished(5, 0, 0, -1, 1, 1, 1);
     finished(3, 1, I64_MIN, -1, U64_MAX, I64_MIN, 1);
     finished(3, 1, I64_MIN, -1, 1, 1, 0);
     finished(3, 1, 1, -1, 1, 1, 0);
@@ -320,6 +354,9 @@ fn posted_amounts() {
     finished(4, 0, 0, -1, 0, 0, 0);
     finished(4, 0, 0, 20_000_000_000, 0, 0, 0);
     finished(4, 0, 0, 20_000_000_001, 0, 0, 0);
+    finished(5, 0, 0, -1, 0, 0, 0);
+    finished(5, 0, 0, 640_000_000_000, 0, 0, 0);
+    finished(5, 0, 0, 640_000_000_001, 0, 0, 0);
 }
 
 // The largest finish of each kind, and the least.
@@ -330,6 +367,8 @@ fn largest_finishes() {
     finished(2, 640_000, 0, 0, 0, 1_000_000, 0);
     finished(3, 0, 0, 0, 640_000, 1_000_000, 0);
     finished(3, 0, 0, 0, 640_000, -1_000_000, 0);
+    finished(5, 0, 0, 640_000_000_000, 640_000, 1_000_000, 0);
+    finished(5, 0, 0, 640_000_000_000, 640_000, -1_000_000, 0);
     finished(4, 0, 0, 20_000_000_000, 640_000, 1_000_000, -1_000_000);
     finished(4, 640_000, 0, 20_000_000_000, 0, -1_000_000, 1_000_000);
     finished(4, 640_000, 0, 0, 0, 1_000_000, -1_000_000);
@@ -337,6 +376,8 @@ fn largest_finishes() {
 
 // Refusals 6 and 7 by themselves.
 fn deliveries() {
+    delivery(5, 640_000, 1_000_000, 0);
+    delivery(5, 0, 0, 1);
     delivery(1, 640_000, 1_000_000, 0);
     delivery(1, 640_001, 1_000_001, 0);
     delivery(1, 640_000, 1_000_001, 0);
@@ -354,4 +395,26 @@ fn bills() {
     billed(0);
     billed(I64_MIN);
     billed(I64_MAX);
+}
+
+// What a bid of kind 5 requires once its hour is closed: a quarter hour of each interval, not below 0, rounded up to a cent once.
+fn closes() {
+    closed(0, 0, 0, 0);
+    closed(640_000, 640_000, 1_000_000, 1_000_000);
+    closed(640_000, 640_000, -1_000_000, -1_000_000);
+    closed(640_000, 640_000, 1_000_000, -1_000_000);
+    closed(640_000, 640_000, -1_000_000, 1_000_000);
+    closed(1, 0, 1, 0);
+    closed(1, 1, 1, 1);
+    closed(2, 1, 1, 1);
+    closed(1, 1, 2, -1);
+    closed(1, 1, 3, -1);
+    closed(1, 1, 4, -1);
+    closed(640_001, 0, 0, 0);
+    closed(0, 640_001, 0, 0);
+    closed(U64_MAX, U64_MAX, I64_MIN, I64_MAX);
+    closed(0, 0, 1_000_001, 0);
+    closed(0, 0, 0, -1_000_001);
+    closed(640_000, 640_000, I64_MIN, 0);
+    closed(640_000, 640_000, 0, I64_MAX);
 }

@@ -1,8 +1,10 @@
 // How long a message takes on a book with so many open records. The last two numbers on standard input: how many groups to open, 0 to 256, and how many messages
-// to send then. Two may stand before them: the hours and the paths between the keys of two groups; without them, or both 0, the keys are spread. And first of all
-// may stand how often a screen asks for the totals before the messages.
+// to send then. Two may stand before them: the hours and the paths between the keys of two groups; without them, or both 0, the keys are spread. Before those may
+// stand how often a screen asks for the totals before the messages. And first of all three: a price, and how many closes at that price and how many opens are sent
+// to a full book of pending bids, each to the book as it was.
 // `bench/speed` times it beside the reference, whose `pace` sends the same messages and prints the same line.
 mod desk;
+mod hour;
 
 use book::Account;
 use book::Answer;
@@ -16,6 +18,9 @@ use libc::STDOUT_FILENO;
 const MODULUS: u64 = 2_147_483_647;
 
 struct Plan {
+    price: u64,
+    closes: u64,
+    opens: u64,
     questions: u64,
     hours: u64,
     paths: u64,
@@ -28,6 +33,9 @@ impl Plan {
     fn fed(self, byte: u8) -> Plan {
         if byte == b' ' {
             return Plan {
+                price: self.closes,
+                closes: self.opens,
+                opens: self.questions,
                 questions: self.hours,
                 hours: self.paths,
                 paths: self.open,
@@ -39,6 +47,9 @@ impl Plan {
             return self;
         }
         Plan {
+            price: self.price,
+            closes: self.closes,
+            opens: self.opens,
             questions: self.questions,
             hours: self.hours,
             paths: self.paths,
@@ -57,8 +68,11 @@ impl Plan {
     }
 }
 
-fn read(input: &[u8; 32]) -> Plan {
+fn read(input: &[u8; 64]) -> Plan {
     let mut plan = Plan {
+        price: 0,
+        closes: 0,
+        opens: 0,
         questions: 0,
         hours: 0,
         paths: 0,
@@ -66,19 +80,19 @@ fn read(input: &[u8; 32]) -> Plan {
         messages: 0,
     };
     let mut i: usize = 0;
-    while i < 32 {
+    while i < 64 {
         plan = plan.fed(input[i]);
         i += 1;
     }
     plan
 }
 
-fn mix(digest: u64, value: u64) -> u64 {
+pub(crate) fn mix(digest: u64, value: u64) -> u64 {
     (digest % MODULUS * 48_271 + value % MODULUS) % MODULUS
 }
 
 // The refusal's number, or 0, and the amounts.
-fn mixed(digest: u64, answer: Answer) -> u64 {
+pub(crate) fn mixed(digest: u64, answer: Answer) -> u64 {
     let first = mix(
         mix(digest, answer.number()),
         amounts::magnitude(answer.requirement()),
@@ -112,9 +126,9 @@ fn shown(digest: u64, account: Account) -> u64 {
     mix(totals, if account.suspended() { 1 } else { 0 })
 }
 
-// The digest of what a screen is shown, so many times.
-fn asked(account: Account, questions: u64) -> u64 {
-    let mut digest: u64 = 0;
+// The digest of what a screen is shown, so many times, after what was sent to the full book.
+fn asked(account: Account, questions: u64, before: u64) -> u64 {
+    let mut digest = before;
     let mut question: u64 = 0;
     while question < questions {
         digest = shown(digest, account);
@@ -145,14 +159,15 @@ fn number(name: &[u8], value: u64) {
 }
 
 fn main() {
-    let mut input = [0u8; 32];
+    let mut input = [0u8; 64];
     io::read_full(STDIN_FILENO, &mut input);
     let plan = read(&input);
     let groups = plan.groups();
     number(b"open ", groups.open);
     number(b" messages ", plan.messages);
     let full = filled(groups);
-    let digest = asked(full.book.account, plan.questions);
+    let sent = hour::sent(plan.price, plan.closes, plan.opens);
+    let digest = asked(full.book.account, plan.questions, sent);
     number(b" digest ", run(full, groups, plan.messages, digest));
     io::write_all(STDOUT_FILENO, b"\n");
 }

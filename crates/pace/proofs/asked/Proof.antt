@@ -6,10 +6,10 @@ use Rattle.pace.proofs.asked.Statement.{statement}
 use Rattle.pace.proofs.asked.Tie as tie
 
 abbrev Inv-loop : tie.InvT-loop
-Inv-loop account questions digest₀ question₀ digest question = Unit {0}
+Inv-loop account questions before digest₀ question₀ digest question = Unit {0}
 
 abbrev μ-loop : tie.MeasureT-loop
-μ-loop account questions digest₀ question₀ digest question = questions - question
+μ-loop account questions before digest₀ question₀ digest question = questions - question
 
 loop-holds : tie.Need-loop-holds Inv-loop μ-loop
 loop-holds c = tt

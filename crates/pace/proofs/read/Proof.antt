@@ -1,14 +1,14 @@
--- The measure is what is left of the 32 bytes.
+-- The measure is what is left of the 64 bytes.
 use Prim.Native.Nat.{_≤_, _-_}
 use borrow.Author.Needs.{needs}
 use Rattle.pace.proofs.read.Statement.{statement}
 use Rattle.pace.proofs.read.Tie as tie
 
 abbrev Inv-loop : tie.InvT-loop
-Inv-loop input plan₀ i₀ plan i = i ≤ 32
+Inv-loop input plan₀ i₀ plan i = i ≤ 64
 
 abbrev μ-loop : tie.MeasureT-loop
-μ-loop input plan₀ i₀ plan i = 32 - i
+μ-loop input plan₀ i₀ plan i = 64 - i
 
 loop-holds : tie.Need-loop-holds Inv-loop μ-loop
 loop-holds c = search needs

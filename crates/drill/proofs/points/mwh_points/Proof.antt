@@ -1,4 +1,4 @@
--- The measure is what is left of the 65 places.
+-- The measure is what is left of the n places.
 use Prim.Native.Nat.{_-_}
 use mathlib.Core.Path.{_≡_}
 use lib.ListN.{length}
@@ -7,10 +7,10 @@ use Rattle.drill.proofs.points.mwh_points.Statement.{statement}
 use Rattle.drill.proofs.points.mwh_points.Tie as tie
 
 abbrev Inv-loop : tie.InvT-loop
-Inv-loop seed list₀ x₀ i₀ list x i = length list ≡ 66
+Inv-loop seed n list₀ x₀ i₀ list x i = length list ≡ 261
 
 abbrev μ-loop : tie.MeasureT-loop
-μ-loop seed list₀ x₀ i₀ list x i = 65 - i
+μ-loop seed n list₀ x₀ i₀ list x i = n - i
 
 draw-requires : tie.Need-draw-requires Inv-loop μ-loop
 draw-requires c κs = tt
@@ -38,9 +38,6 @@ loop-less c = search needs
 
 loop-again : tie.Need-loop-again Inv-loop μ-loop
 loop-again c = search needs
-
-mwh-count-requires : tie.Need-mwh-count-requires Inv-loop μ-loop
-mwh-count-requires c κs = tt
 
 faulty-place-requires : tie.Need-faulty-place-requires Inv-loop μ-loop
 faulty-place-requires c κs = tt
@@ -75,7 +72,6 @@ mwh-points-spec =
     add-i
     loop-less
     loop-again
-    mwh-count-requires
     faulty-place-requires
     draw-requires-2
     one-of-requires

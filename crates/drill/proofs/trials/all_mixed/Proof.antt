@@ -22,11 +22,11 @@ mul-r c = search needs
 element-copy-out-r : tie.Need-element-copy-out-r Inv-loop μ-loop
 element-copy-out-r c = search needs
 
-mix-record-requires : tie.Need-mix-record-requires Inv-loop μ-loop
-mix-record-requires c κs = tt
-
 add-i : tie.Need-add-i Inv-loop μ-loop
 add-i c = search needs
+
+mix-place-requires : tie.Need-mix-place-requires Inv-loop μ-loop
+mix-place-requires c κs = tt
 
 loop-less : tie.Need-loop-less Inv-loop μ-loop
 loop-less c = search needs
@@ -47,8 +47,8 @@ all-mixed-spec =
     loop-holds
     mul-r
     element-copy-out-r
-    mix-record-requires
     add-i
+    mix-place-requires
     loop-less
     loop-again
     returns)
