@@ -1,7 +1,9 @@
 //! Tells the script of the program `edges` to this crate's book. What it
 //! prints is what that program must write.
 
-use reference::book::{Bill, Finish, Opening, Payment, Posting, Revision, Support, Withdrawal};
+use reference::book::{
+    Bill, Closing, Curves, Finish, Opening, Payment, Posting, Revision, Support, Withdrawal,
+};
 use reference::{Answer, Book, Key, Message, Record};
 
 const SCRIPT: &str = include_str!("../../crates/edges/stdin");
@@ -46,9 +48,9 @@ fn answered(book: &mut Book, line: &str) -> String {
         "sums" => sums(book),
         _ => match message(word, &numbers) {
             Some(message) => {
-                let (mwh, prices) = numbers.points();
+                let (listed, prices) = numbers.lists(word);
                 let before = book.clone();
-                let answer = book.apply(message, &mwh, &prices);
+                let answer = book.apply(message, &listed, &prices);
                 shown(&before, book, answer)
             }
             None => String::new(),
@@ -56,7 +58,9 @@ fn answered(book: &mut Book, line: &str) -> String {
     }
 }
 
-/// The message of a word and its numbers, in the order of document 01.
+/// The message of a word and its numbers, in the order of document 01. Those
+/// of order 3: `curves` and `rows` open four curves, `recurves` revises them,
+/// `hour` and `span` close an hour.
 fn message(word: &str, numbers: &Numbers) -> Option<Message> {
     let key = numbers.key(0);
     let message = match word {
@@ -91,6 +95,14 @@ fn message(word: &str, numbers: &Numbers) -> Option<Message> {
         "support" => Message::Support(Support {
             amount: numbers.signed(0),
         }),
+        "curves" | "rows" => Message::OpenCurves(numbers.curves()),
+        "recurves" => Message::ReviseCurves(numbers.curves()),
+        "hour" => Message::Close(Closing {
+            hour: numbers.whole(0),
+        }),
+        "span" => Message::Close(Closing {
+            hour: numbers.whole(2),
+        }),
         _ => return None,
     };
     Some(message)
@@ -98,11 +110,12 @@ fn message(word: &str, numbers: &Numbers) -> Option<Message> {
 
 fn shown(before: &Book, after: &Book, answer: Answer) -> String {
     format!(
-        ": {} {} {} {}{}",
+        ": {} {} {} {}{}{}",
         answer.number(),
         answer.requirement,
         answer.held,
         answer.net_owed,
+        if answer.removed { " removed" } else { "" },
         compared(before, after)
     )
 }
@@ -117,8 +130,9 @@ fn compared(before: &Book, after: &Book) -> &'static str {
 
 fn fields(record: &Record) -> String {
     let Key { kind, path, hour } = record.key;
+    let [first, second, third, fourth] = record.intervals;
     format!(
-        ": {kind} {path} {hour} {} {} {} {} {} {} {}",
+        ": {kind} {path} {hour} {} {} {} {} {} {} {} {first} {second} {third} {fourth}",
         record.stage,
         record.bid_mwh,
         record.differential,
@@ -184,12 +198,52 @@ impl Numbers {
             schedule: self.whole(8),
             day_ahead_price: self.signed(9),
             requirement: self.signed(10),
+            intervals: self.four(11),
         }
     }
 
-    /// From the sixth on: MWh and price, by turns.
-    fn points(&self) -> (Vec<u64>, Vec<i64>) {
-        let points = self.0.get(5..).unwrap_or_default();
+    fn four(&self, at: usize) -> [u64; 4] {
+        [0, 1, 2, 3].map(|i| self.whole(at + i))
+    }
+
+    /// A key, and how many points each interval has.
+    fn curves(&self) -> Curves {
+        Curves {
+            key: self.key(0),
+            counts: self.four(3),
+        }
+    }
+
+    /// What stands beside the message.
+    fn lists(&self, word: &str) -> (Vec<u64>, Vec<i64>) {
+        match word {
+            "curves" | "recurves" => self.points(7),
+            // So many of each, all alike.
+            "rows" => {
+                let (mwh, prices) = (self.whole(7) as usize, self.whole(8) as usize);
+                (vec![self.whole(9); mwh], vec![self.signed(10); prices])
+            }
+            // The hour, how many paths, these, and then the prices.
+            "hour" => {
+                let listed = self.0.get(2..).unwrap_or_default();
+                let (paths, prices) = listed.split_at(self.whole(1) as usize);
+                let paths = paths.iter().map(|path| path.unsigned_abs());
+                (paths.collect(), prices.to_vec())
+            }
+            // So many paths, from one on and after 999 from 1; the hour; so
+            // many prices, all alike.
+            "span" => {
+                let path = |i| (self.whole(1) + 998 + i) % 999 + 1;
+                let prices = vec![self.signed(4); self.whole(3) as usize];
+                ((0..self.whole(0)).map(path).collect(), prices)
+            }
+            _ => self.points(5),
+        }
+    }
+
+    /// From a number on: MWh and price, by turns.
+    fn points(&self, first: usize) -> (Vec<u64>, Vec<i64>) {
+        let points = self.0.get(first..).unwrap_or_default();
         let mwh = points.iter().step_by(2).map(|mwh| mwh.unsigned_abs());
         let prices = points.iter().skip(1).step_by(2).copied();
         (mwh.collect(), prices.collect())

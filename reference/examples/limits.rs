@@ -20,6 +20,7 @@ fn main() {
     largest_finishes();
     deliveries();
     bills();
+    closes();
 }
 
 /// The count of points, and lists of unequal length.
@@ -69,31 +70,41 @@ fn differentials() {
     posted(4, 1, 1, 0, 0);
 }
 
-/// The kind; posting is not for kind 3.
+/// The kind; a bid of kind 5 has four curves, and posting is not for kinds 3
+/// and 5.
 fn kinds() {
     bid(0, 1, 1, 1, 1, 0);
     bid(5, 1, 1, 1, 1, 0);
+    bid(6, 1, 1, 1, 1, 0);
     bid(u64::MAX, 1, 1, 1, 1, 0);
     posted(0, 0, 1, 1, 0);
     posted(5, 0, 1, 1, 0);
+    posted(6, 0, 1, 1, 0);
     finished(0, 1, 1, 1, 1, 1, 0);
     finished(5, 1, 1, 1, 1, 1, 0);
+    finished(6, 1, 1, 1, 1, 1, 0);
     posted(3, 0, 0, 0, 0);
     posted(3, 0, 1, 1, 0);
 }
 
 /// Where several apply, the first.
 fn first_refusals() {
-    bid(5, 0, u64::MAX, 65, i64::MIN, u64::MAX);
+    bid(6, 0, u64::MAX, 65, i64::MIN, u64::MAX);
+    bid(5, 1, u64::MAX, 1, i64::MIN, u64::MAX);
     bid(3, 1, u64::MAX, 65, i64::MIN, u64::MAX);
     bid(3, 1, u64::MAX, 1, i64::MIN, u64::MAX);
     bid(3, 1, 1, 1, i64::MIN, u64::MAX);
     bid(3, 1, 1, 1, 1, u64::MAX);
-    posted(5, u64::MAX, u64::MAX, i64::MIN, 1);
+    posted(6, u64::MAX, u64::MAX, i64::MIN, 1);
     posted(3, u64::MAX, u64::MAX, i64::MIN, 1);
     posted(3, u64::MAX, 1, 1, 1);
     posted(3, 1, 1, 1, 0);
-    finished(5, u64::MAX, i64::MIN, -1, u64::MAX, i64::MIN, 1);
+    posted(5, u64::MAX, u64::MAX, i64::MIN, 1);
+    posted(5, u64::MAX, 1, 1, 1);
+    posted(5, 1, 1, 1, 0);
+    finished(6, u64::MAX, i64::MIN, -1, u64::MAX, i64::MIN, 1);
+    finished(5, 0, 0, -1, u64::MAX, i64::MIN, 1);
+    finished(5, 0, 0, -1, 1, 1, 1);
     finished(3, 1, i64::MIN, -1, u64::MAX, i64::MIN, 1);
     finished(3, 1, i64::MIN, -1, 1, 1, 0);
     finished(3, 1, 1, -1, 1, 1, 0);
@@ -174,6 +185,9 @@ fn posted_amounts() {
     finished(4, 0, 0, -1, 0, 0, 0);
     finished(4, 0, 0, 20_000_000_000, 0, 0, 0);
     finished(4, 0, 0, 20_000_000_001, 0, 0, 0);
+    finished(5, 0, 0, -1, 0, 0, 0);
+    finished(5, 0, 0, 640_000_000_000, 0, 0, 0);
+    finished(5, 0, 0, 640_000_000_001, 0, 0, 0);
 }
 
 /// The largest finish of each kind, and the least.
@@ -184,6 +198,8 @@ fn largest_finishes() {
     finished(2, 640_000, 0, 0, 0, 1_000_000, 0);
     finished(3, 0, 0, 0, 640_000, 1_000_000, 0);
     finished(3, 0, 0, 0, 640_000, -1_000_000, 0);
+    finished(5, 0, 0, 640_000_000_000, 640_000, 1_000_000, 0);
+    finished(5, 0, 0, 640_000_000_000, 640_000, -1_000_000, 0);
     finished(4, 0, 0, 20_000_000_000, 640_000, 1_000_000, -1_000_000);
     finished(4, 640_000, 0, 20_000_000_000, 0, -1_000_000, 1_000_000);
     finished(4, 640_000, 0, 0, 0, 1_000_000, -1_000_000);
@@ -191,6 +207,8 @@ fn largest_finishes() {
 
 /// Refusals 6 and 7 by themselves.
 fn deliveries() {
+    delivery(5, 640_000, 1_000_000, 0);
+    delivery(5, 0, 0, 1);
     delivery(1, 640_000, 1_000_000, 0);
     delivery(1, 640_001, 1_000_001, 0);
     delivery(1, 640_000, 1_000_001, 0);
@@ -208,6 +226,28 @@ fn bills() {
     billed(0);
     billed(i64::MIN);
     billed(i64::MAX);
+}
+
+/// What a bid of kind 5 requires once its hour is closed.
+fn closes() {
+    closed(0, 0, 0, 0);
+    closed(640_000, 640_000, 1_000_000, 1_000_000);
+    closed(640_000, 640_000, -1_000_000, -1_000_000);
+    closed(640_000, 640_000, 1_000_000, -1_000_000);
+    closed(640_000, 640_000, -1_000_000, 1_000_000);
+    closed(1, 0, 1, 0);
+    closed(1, 1, 1, 1);
+    closed(2, 1, 1, 1);
+    closed(1, 1, 2, -1);
+    closed(1, 1, 3, -1);
+    closed(1, 1, 4, -1);
+    closed(640_001, 0, 0, 0);
+    closed(0, 640_001, 0, 0);
+    closed(u64::MAX, u64::MAX, i64::MIN, i64::MAX);
+    closed(0, 0, 1_000_001, 0);
+    closed(0, 0, 0, -1_000_001);
+    closed(640_000, 640_000, i64::MIN, 0);
+    closed(640_000, 640_000, 0, i64::MAX);
 }
 
 fn bid(kind: u64, quantities: usize, mwh: u64, priced: usize, price: i64, differential: u64) {
@@ -258,6 +298,16 @@ fn billed(amount: i64) {
     answered(refusal.map(|()| i128::from(amount)));
 }
 
+/// An interval's sum and price first, then those of the other three, which are
+/// alike.
+fn closed(mwh: u64, others: u64, price: i64, other_prices: i64) {
+    print!("closed MWh {mwh} and three times {others}");
+    print!(" prices {price} and three times {other_prices}");
+    let sums = [mwh, others, others, others];
+    let prices = [price, other_prices, other_prices, other_prices];
+    answered(closed_amount(sums, prices));
+}
+
 fn answered(amount: Result<i128, Refusal>) {
     let number = amount.err().map_or(0, Refusal::number);
     println!(": {number} {}", amount.unwrap_or(0));
@@ -266,6 +316,7 @@ fn answered(amount: Result<i128, Refusal>) {
 /// Refusals 2 and 5 to 8, then the bid.
 fn bid_amount(kind: u64, mwh: &[u64], prices: &[i64], differential: u64) -> Result<i128, Refusal> {
     check_kind(kind)?;
+    check_one_curve(kind)?;
     check_points(mwh, prices)?;
     check_differential(kind, differential)?;
     let differential = i128::from(differential);
@@ -289,7 +340,7 @@ fn posted_amount(
     require(limits::MWH.contains(&schedule), Refusal::Quantity)?;
     check_prices(kind, price, second)?;
     check_differential(kind, differential)?;
-    require(kind != 3, Refusal::WrongStage)?;
+    check_posting(kind)?;
     let (schedule, differential) = (i128::from(schedule), i128::from(differential));
     let (price, second) = (i128::from(price), i128::from(second));
     Ok(match kind {
@@ -326,8 +377,21 @@ fn finished_amount(
         1 => formulas::import_finished(schedule, actual, day_ahead, price, false),
         2 => formulas::export_finished(posted, schedule, actual, price),
         3 => formulas::hour_ahead_export_finished(actual, price),
+        5 => formulas::quarter_hour_export_finished(actual, price),
         _ => formulas::wheel_finished(posted, schedule, actual, difference),
     })
+}
+
+/// Refusals 6 and 7, then "the sum over intervals of price x MWh x a quarter
+/// hour, not below 0, rounded up to a cent once" (02, order 3).
+fn closed_amount(
+    mwh: [u64; limits::INTERVALS],
+    prices: [i64; limits::INTERVALS],
+) -> Result<i128, Refusal> {
+    let sums_fit = mwh.iter().all(|mwh| limits::INTERVAL_MWH.contains(mwh));
+    require(sums_fit, Refusal::Quantity)?;
+    check_price_list(&prices)?;
+    Ok(formulas::quarter_hour_export_closed(&mwh, &prices))
 }
 
 fn require(holds: bool, refusal: Refusal) -> Result<(), Refusal> {
@@ -338,8 +402,21 @@ fn require(holds: bool, refusal: Refusal) -> Result<(), Refusal> {
     }
 }
 
+/// "Kinds run to 5" (02, order 3).
 fn check_kind(kind: u64) -> Result<(), Refusal> {
-    require((1..=4).contains(&kind), Refusal::Kind)
+    require((1..=5).contains(&kind), Refusal::Kind)
+}
+
+/// "A kind 5: Hour-Ahead export bids with four interval curves" (02, order 3).
+/// One curve is not a count of points that it can have.
+fn check_one_curve(kind: u64) -> Result<(), Refusal> {
+    require(kind != 5, Refusal::Points)
+}
+
+/// Post "is not for kind 3 (refusal 12)"; "12 for posting kind 5" (02,
+/// order 3).
+fn check_posting(kind: u64) -> Result<(), Refusal> {
+    require(kind != 3 && kind != 5, Refusal::WrongStage)
 }
 
 fn check_points(mwh: &[u64], prices: &[i64]) -> Result<(), Refusal> {
@@ -347,16 +424,23 @@ fn check_points(mwh: &[u64], prices: &[i64]) -> Result<(), Refusal> {
     require(counted, Refusal::Points)?;
     let quantities_fit = mwh.iter().all(|mwh| limits::POINT_MWH.contains(mwh));
     require(quantities_fit, Refusal::Quantity)?;
+    check_price_list(prices)
+}
+
+fn check_price_list(prices: &[i64]) -> Result<(), Refusal> {
     let prices_fit = prices.iter().all(|price| limits::PRICE.contains(price));
     require(prices_fit, Refusal::Price)
 }
 
 /// "Kinds 1 to 3 use one price in post and finish, and their second must be 0."
+/// So does kind 5.
 fn check_prices(kind: u64, price: i64, second: i64) -> Result<(), Refusal> {
     let in_range = limits::PRICE.contains(&price) && limits::PRICE.contains(&second);
     require(in_range && (kind == 4 || second == 0), Refusal::Price)
 }
 
+/// "Differential: 0 to 1,000,000; 0 for kinds 3 and 4." Kind 5 "carries no
+/// differential or exempt mark" (02, order 3).
 fn check_differential(kind: u64, differential: u64) -> Result<(), Refusal> {
     let range = match kind {
         1 | 2 => limits::DIFFERENTIAL,

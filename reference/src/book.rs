@@ -1,16 +1,20 @@
-//! The book: its records, its eight messages and refusals 1 to 16.
+//! The book: its records, its eleven messages and refusals 1 to 16.
+//!
+//! Kind 5, bids with four interval curves, and the close of an hour are of
+//! document 02, order 3.
 
-use std::collections::HashMap;
+use std::collections::{BTreeMap, BTreeSet, HashMap};
 // In the prelude of edition 2021; named so that the default edition builds.
 use std::convert::TryFrom;
 
 use crate::formulas;
-use crate::limits;
+use crate::limits::{self, INTERVALS};
 use crate::refusal::{require, Refusal};
 
 /// "Open makes stage 1."
 pub const BID: u64 = 1;
-/// "Post goes from 1 to 2."
+/// "Post goes from 1 to 2." For kind 5 a close goes there: "It moves them to
+/// stage 2" (02, order 3).
 pub const POSTED: u64 = 2;
 /// "Finish goes from 2 to 3, for kind 3 from 1 to 3."
 pub const FINISHED: u64 = 3;
@@ -18,7 +22,8 @@ pub const FINISHED: u64 = 3;
 pub const BILLED: u64 = 4;
 
 /// "Four kinds: 1 Day-Ahead import, 2 Day-Ahead export, 3 Hour-Ahead export,
-/// 4 Day-Ahead wheel through."
+/// 4 Day-Ahead wheel through." And "a kind 5: Hour-Ahead export bids with four
+/// interval curves" (02, order 3).
 #[derive(Clone, Copy, Debug, PartialEq, Eq)]
 pub enum Kind {
     /// 1.
@@ -29,16 +34,20 @@ pub enum Kind {
     HourAheadExport,
     /// 4.
     Wheel,
+    /// 5.
+    QuarterHourExport,
 }
 
 impl Kind {
-    /// The kind of a number from 1 to 4, and none otherwise.
+    /// The kind of a number from 1 to 5, and none otherwise: "kinds run to 5"
+    /// (02, order 3).
     pub fn from_number(number: u64) -> Option<Kind> {
         match number {
             1 => Some(Kind::Import),
             2 => Some(Kind::Export),
             3 => Some(Kind::HourAheadExport),
             4 => Some(Kind::Wheel),
+            5 => Some(Kind::QuarterHourExport),
             _ => None,
         }
     }
@@ -48,7 +57,7 @@ impl Kind {
 /// sink pair) and hour (0 to 999,999)."
 #[derive(Clone, Copy, Debug, Default, PartialEq, Eq, Hash)]
 pub struct Key {
-    /// 1 to 4.
+    /// 1 to 5.
     pub kind: u64,
     /// 1 to 999.
     pub path: u64,
@@ -57,16 +66,18 @@ pub struct Key {
 }
 
 /// "A record keeps key, stage, bid MWh, differential, exempt mark, schedule,
-/// Day-Ahead price and requirement."
+/// Day-Ahead price and requirement." And "the record keeps its four MWh sums"
+/// (02, order 3).
 #[derive(Clone, Copy, Debug, Default, PartialEq, Eq)]
 pub struct Record {
     /// What the transaction is known by.
     pub key: Key,
-    /// 1 bid, 2 posted, 3 finished, 4 billed.
+    /// 1 bid, 2 posted (for kind 5 closed), 3 finished, 4 billed.
     pub stage: u64,
-    /// The largest MWh of any point, for exports the sum of all.
+    /// The largest MWh of any point, for exports the sum of all; 0 for
+    /// kind 5.
     pub bid_mwh: u64,
-    /// Cents per MWh; 0 for kinds 3 and 4.
+    /// Cents per MWh; 0 for kinds 3 to 5.
     pub differential: u64,
     /// Whether an import is exempt.
     pub exempt: bool,
@@ -76,6 +87,8 @@ pub struct Record {
     pub day_ahead_price: i64,
     /// Signed cents.
     pub requirement: i64,
+    /// The MWh sum of each interval; 0 for kinds 1 to 4.
+    pub intervals: [u64; INTERVALS],
 }
 
 impl Record {
@@ -93,6 +106,7 @@ impl Record {
         schedule: 0,
         day_ahead_price: 0,
         requirement: 0,
+        intervals: [0; INTERVALS],
     };
 
     /// Whether the place holds no record.
@@ -112,6 +126,7 @@ impl Record {
                     && self.schedule_is_sound(kind)
                     && self.day_ahead_price_is_sound(kind)
                     && self.requirement_is_sound(kind)
+                    && self.intervals_are_sound(kind)
             }
             None => false,
         }
@@ -129,10 +144,12 @@ impl Record {
     }
 
     /// "Bid MWh is at most 10,000 for kinds 1 and 4 and 640,000 otherwise."
+    /// Kind 5: "these and bid MWh are 0" (02, order 3).
     fn bid_mwh_is_sound(&self, kind: Kind) -> bool {
         match kind {
             Kind::Import | Kind::Wheel => limits::LARGEST_BID_MWH.contains(&self.bid_mwh),
             Kind::Export | Kind::HourAheadExport => limits::SUMMED_BID_MWH.contains(&self.bid_mwh),
+            Kind::QuarterHourExport => self.bid_mwh == 0,
         }
     }
 
@@ -141,7 +158,8 @@ impl Record {
         !self.exempt || kind == Kind::Import
     }
 
-    /// "Schedule is at most bid MWh and 0 at stage 1 and for kind 3."
+    /// "Schedule is at most bid MWh and 0 at stage 1 and for kind 3." Kind 5
+    /// is never posted, and its bid MWh is 0.
     fn schedule_is_sound(&self, kind: Kind) -> bool {
         let must_be_0 = self.stage == BID || kind == Kind::HourAheadExport;
         limits::MWH.contains(&self.schedule)
@@ -157,9 +175,11 @@ impl Record {
 
     /// "The requirement is bounded: stages 1 and 2, 0 to 640,000,000,000
     /// (kind 4: to 20,000,000,000); stage 3, within 1,300,000,000,000 of
-    /// zero; stage 4, a bill's range."
+    /// zero; stage 4, a bill's range." Kind 5: "on opening a bid is pending
+    /// (stage 1), requirement 0" (02, order 3).
     fn requirement_is_sound(&self, kind: Kind) -> bool {
         let range = match (self.stage, kind) {
+            (BID, Kind::QuarterHourExport) => limits::PENDING_REQUIREMENT,
             (BID | POSTED, Kind::Wheel) => limits::EARLY_WHEEL_REQUIREMENT,
             (BID | POSTED, _) => limits::EARLY_REQUIREMENT,
             (FINISHED, _) => limits::FINISHED_REQUIREMENT,
@@ -167,13 +187,32 @@ impl Record {
         };
         range.contains(&self.requirement)
     }
+
+    /// 64 points of at most 10,000 MWh to an interval (02, order 3); the four
+    /// sums are kind 5's alone.
+    fn intervals_are_sound(&self, kind: Kind) -> bool {
+        if kind == Kind::QuarterHourExport {
+            let in_range = |mwh| limits::INTERVAL_MWH.contains(mwh);
+            self.intervals.iter().all(in_range)
+        } else {
+            self.intervals == [0; INTERVALS]
+        }
+    }
+
+    /// Whether it is a kind 5 bid of this hour that is not closed yet.
+    fn is_pending_in(&self, hour: u64) -> bool {
+        Kind::from_number(self.key.kind) == Some(Kind::QuarterHourExport)
+            && self.key.hour == hour
+            && self.stage == BID
+    }
 }
 
-/// "Differential: 0 to 1,000,000; 0 for kinds 3 and 4."
+/// "Differential: 0 to 1,000,000; 0 for kinds 3 and 4." Kind 5 "carries no
+/// differential or exempt mark" (02, order 3).
 fn differential_range(kind: Kind) -> std::ops::RangeInclusive<u64> {
     match kind {
         Kind::Import | Kind::Export => limits::DIFFERENTIAL,
-        Kind::HourAheadExport | Kind::Wheel => limits::NO_DIFFERENTIAL,
+        Kind::HourAheadExport | Kind::Wheel | Kind::QuarterHourExport => limits::NO_DIFFERENTIAL,
     }
 }
 
@@ -258,6 +297,30 @@ pub struct Support {
     pub amount: i64,
 }
 
+/// Open or revise "with four interval curves" (02, order 3): "an interval has
+/// 0 to 64 points".
+///
+/// The points stand beside the message in the two lent lists, one interval
+/// after another.
+#[derive(Clone, Copy, Debug, PartialEq, Eq)]
+pub struct Curves {
+    /// The transaction to open or to revise.
+    pub key: Key,
+    /// How many points each interval has.
+    pub counts: [u64; INTERVALS],
+}
+
+/// "A close message names an hour and lists paths with four interval prices
+/// each" (02, order 3).
+///
+/// The paths stand beside the message in the list of whole numbers, and the
+/// prices, four for each path, in the list of prices.
+#[derive(Clone, Copy, Debug, PartialEq, Eq)]
+pub struct Closing {
+    /// The hour whose pending bids are closed.
+    pub hour: u64,
+}
+
 /// "Each message is one case with its own set of values."
 #[derive(Clone, Copy, Debug, PartialEq, Eq)]
 pub enum Message {
@@ -277,6 +340,12 @@ pub enum Message {
     Pay(Payment),
     /// Sets the support.
     Support(Support),
+    /// Opens a transaction with four interval curves.
+    OpenCurves(Curves),
+    /// Replaces the four interval curves of an open transaction.
+    ReviseCurves(Curves),
+    /// Closes an hour: its pending bids, as one batch.
+    Close(Closing),
 }
 
 /// What a message is answered.
@@ -284,12 +353,16 @@ pub enum Message {
 /// "Acceptance answers the key's requirement (0 after withdraw, pay and
 /// support), held and net owed of the next book. A refusal answers its
 /// number, requirement 0, the held and net owed of the unchanged book (both 0
-/// for 1)."
+/// for 1)." "Close answers the batch's summed requirement, 0 if removed"; "if
+/// held with the batch exceeds support, every one is removed, and the answer
+/// says so" (02, order 3).
 #[derive(Clone, Copy, Debug, PartialEq, Eq)]
 pub struct Answer {
     /// Why the message is turned away, and none when it is accepted.
     pub refusal: Option<Refusal>,
-    /// The key's requirement.
+    /// Whether a close was accepted and its whole batch removed.
+    pub removed: bool,
+    /// The key's requirement; of a close the batch's.
     pub requirement: i64,
     /// The sum of all requirements.
     pub held: i64,
@@ -302,6 +375,21 @@ impl Answer {
     pub fn number(&self) -> u64 {
         self.refusal.map_or(0, Refusal::number)
     }
+}
+
+/// How an accepted message ends.
+enum Ending {
+    /// With this requirement under the key, or of the batch.
+    Stands(i64),
+    /// With the batch removed.
+    Removed,
+}
+
+type Outcome = Result<Ending, Refusal>;
+
+/// Accepted, with this requirement.
+fn stands(requirement: i64) -> Outcome {
+    Ok(Ending::Stands(requirement))
 }
 
 /// Where the key of each record stands.
@@ -356,7 +444,7 @@ impl Book {
     /// support answers refusal 9 and an empty book of support 0."
     pub fn fresh(support: i64) -> (Book, Answer) {
         let (book, outcome) = match check_support(support) {
-            Ok(()) => (Book::empty(support), Ok(0)),
+            Ok(()) => (Book::empty(support), stands(0)),
             Err(refusal) => (Book::empty(0), Err(refusal)),
         };
         let answer = book.answer(outcome);
@@ -447,14 +535,17 @@ impl Book {
     }
 
     /// Answers a message and leaves the next book in place of this one. The
-    /// two lists are the points of open and revise; other messages pass over
-    /// them. "Lent lists are only read."
-    pub fn apply(&mut self, message: Message, mwh: &[u64], prices: &[i64]) -> Answer {
+    /// two lists are the points of open and revise, and of a close its paths
+    /// and prices; other messages pass over them. "Lent lists are only read."
+    pub fn apply(&mut self, message: Message, numbers: &[u64], prices: &[i64]) -> Answer {
         let directory = match self.sound_directory() {
             Some(directory) => directory,
             None => return NOT_SOUND,
         };
-        let curve = Curve { mwh, prices };
+        let curve = Curve {
+            mwh: numbers,
+            prices,
+        };
         let outcome = match message {
             Message::Open(opening) => self.open(&directory, opening, curve),
             Message::Revise(revision) => self.revise(&directory, revision, curve),
@@ -464,6 +555,9 @@ impl Book {
             Message::Bill(bill) => self.bill(&directory, bill),
             Message::Pay(payment) => self.pay(&directory, payment),
             Message::Support(support) => self.set_support(support),
+            Message::OpenCurves(curves) => self.open_curves(&directory, curves, curve),
+            Message::ReviseCurves(curves) => self.revise_curves(&directory, curves, curve),
+            Message::Close(closing) => self.close(closing, numbers, prices),
         };
         if outcome.is_ok() {
             self.keep_totals();
@@ -472,22 +566,23 @@ impl Book {
     }
 
     /// The answer with this book's held and net owed.
-    fn answer(&self, outcome: Result<i64, Refusal>) -> Answer {
+    fn answer(&self, outcome: Outcome) -> Answer {
+        let (refusal, removed, requirement) = match outcome {
+            Ok(Ending::Stands(requirement)) => (None, false, requirement),
+            Ok(Ending::Removed) => (None, true, 0),
+            Err(refusal) => (Some(refusal), false, 0),
+        };
         Answer {
-            refusal: outcome.err(),
-            requirement: outcome.unwrap_or(0),
+            refusal,
+            removed,
+            requirement,
             held: self.held,
             net_owed: self.net_owed,
         }
     }
 
     /// Open: refusals 2 to 8, 10, 14, 15 and 16.
-    fn open(
-        &mut self,
-        directory: &Directory,
-        opening: Opening,
-        curve: Curve,
-    ) -> Result<i64, Refusal> {
+    fn open(&mut self, directory: &Directory, opening: Opening, curve: Curve) -> Outcome {
         let key = opening.key;
         let group = Group::read(key, curve, opening.differential, opening.exempt)?;
         require(!directory.contains_key(&key), Refusal::KeyAlreadyOpen)?;
@@ -499,7 +594,7 @@ impl Book {
             Refusal::AboveSupport,
         )?;
         self.records[place] = group.record(key);
-        Ok(group.requirement)
+        stands(group.requirement)
     }
 
     /// "A new record takes the lowest free place."
@@ -508,12 +603,7 @@ impl Book {
     }
 
     /// Revise: refusals 2 to 8, 11, 12, 14 and 16.
-    fn revise(
-        &mut self,
-        directory: &Directory,
-        revision: Revision,
-        curve: Curve,
-    ) -> Result<i64, Refusal> {
+    fn revise(&mut self, directory: &Directory, revision: Revision, curve: Curve) -> Outcome {
         let key = revision.key;
         let group = Group::read(key, curve, revision.differential, revision.exempt)?;
         let place = self.place_at_stage(directory, key, BID)?;
@@ -524,20 +614,85 @@ impl Book {
         let above_support = held_afterwards > i128::from(self.support);
         require(!(new > old && above_support), Refusal::AboveSupport)?;
         self.records[place] = group.record(key);
-        Ok(new)
+        stands(new)
+    }
+
+    /// Open with four curves: refusals 2 to 7, 10, 14 and 15; "16 never for
+    /// opening kind 5" (02, order 3), since "credit isn't checked".
+    fn open_curves(&mut self, directory: &Directory, curves: Curves, points: Curve) -> Outcome {
+        let pending = pending_record(curves, points)?;
+        let taken = directory.contains_key(&curves.key);
+        require(!taken, Refusal::KeyAlreadyOpen)?;
+        require(!self.is_suspended(), Refusal::Suspended)?;
+        let place = self.lowest_free_place().ok_or(Refusal::BookFull)?;
+        self.records[place] = pending;
+        stands(pending.requirement)
+    }
+
+    /// Revise with four curves: refusals 2 to 7, 11, 12 and 14. A pending
+    /// bid's requirement stays 0, so 16 has nothing to check.
+    fn revise_curves(&mut self, directory: &Directory, curves: Curves, points: Curve) -> Outcome {
+        let pending = pending_record(curves, points)?;
+        let place = self.place_at_stage(directory, curves.key, BID)?;
+        require(!self.is_suspended(), Refusal::Suspended)?;
+        self.records[place] = pending;
+        stands(pending.requirement)
+    }
+
+    /// Close: refusals 3, 4, 5, 7 and 11. "All pending bids of that hour are
+    /// one batch: if held with the batch exceeds support, every one is
+    /// removed" (02, order 3).
+    fn close(&mut self, closing: Closing, paths: &[u64], prices: &[i64]) -> Outcome {
+        let quotes = check_closing(closing, paths, prices)?;
+        let pending = self.pending_places(closing.hour);
+        // "11 when the hour has no pending bid or the paths aren't those
+        // pending."
+        let exactly = !pending.is_empty() && pending.keys().eq(quotes.keys());
+        require(exactly, Refusal::KeyNotOpen)?;
+        let batch: Vec<(usize, i128)> = pending
+            .iter()
+            .map(|(path, &place)| (place, self.closed_requirement(place, quotes[path])))
+            .collect();
+        let sum: i128 = batch.iter().map(|&(_, requirement)| requirement).sum();
+        if i128::from(self.held) + sum > i128::from(self.support) {
+            for (place, _) in batch {
+                self.records[place] = Record::FREE;
+            }
+            return Ok(Ending::Removed);
+        }
+        for (place, requirement) in batch {
+            self.records[place].stage = POSTED;
+            self.records[place].requirement = cents(requirement);
+        }
+        stands(cents(sum))
+    }
+
+    /// Where the pending bids of an hour stand, by path.
+    fn pending_places(&self, hour: u64) -> BTreeMap<u64, usize> {
+        self.records
+            .iter()
+            .enumerate()
+            .filter(|(_, record)| record.is_pending_in(hour))
+            .map(|(place, record)| (record.key.path, place))
+            .collect()
+    }
+
+    /// What a pending bid needs at these interval prices.
+    fn closed_requirement(&self, place: usize, prices: Quote) -> i128 {
+        formulas::quarter_hour_export_closed(&self.records[place].intervals, prices)
     }
 
     /// Withdraw: refusals 2, 3, 4, 11 and 12. "Withdraw frees it too."
-    fn withdraw(&mut self, directory: &Directory, withdrawal: Withdrawal) -> Result<i64, Refusal> {
+    fn withdraw(&mut self, directory: &Directory, withdrawal: Withdrawal) -> Outcome {
         check_key(withdrawal.key)?;
         let place = self.place_at_stage(directory, withdrawal.key, BID)?;
         self.records[place] = Record::FREE;
-        Ok(0)
+        stands(0)
     }
 
     /// Post: refusals 2, 3, 4, 6, 7, 11, 12 and 13. "Post keeps the schedule
     /// and, for kind 1, the first price."
-    fn post(&mut self, directory: &Directory, posting: Posting) -> Result<i64, Refusal> {
+    fn post(&mut self, directory: &Directory, posting: Posting) -> Outcome {
         let kind = check_key(posting.key)?;
         require(limits::MWH.contains(&posting.schedule), Refusal::Quantity)?;
         check_two_prices(kind, posting.first_price, posting.second_price)?;
@@ -554,12 +709,12 @@ impl Book {
             record.day_ahead_price = posting.first_price;
         }
         record.requirement = requirement;
-        Ok(requirement)
+        stands(requirement)
     }
 
     /// Finish: refusals 2, 3, 4, 6, 7, 11 and 12. "Actual and real-time
     /// values aren't kept."
-    fn finish(&mut self, directory: &Directory, finish: Finish) -> Result<i64, Refusal> {
+    fn finish(&mut self, directory: &Directory, finish: Finish) -> Outcome {
         let kind = check_key(finish.key)?;
         require(limits::MWH.contains(&finish.actual), Refusal::Quantity)?;
         check_two_prices(kind, finish.first_price, finish.second_price)?;
@@ -567,34 +722,34 @@ impl Book {
         let record = &mut self.records[place];
         record.requirement = cents(finished_requirement(kind, record, &finish));
         record.stage = FINISHED;
-        Ok(record.requirement)
+        stands(record.requirement)
     }
 
     /// Bill: refusals 2, 3, 4, 9, 11 and 12. "Billed, every kind: the bill,
     /// signed."
-    fn bill(&mut self, directory: &Directory, bill: Bill) -> Result<i64, Refusal> {
+    fn bill(&mut self, directory: &Directory, bill: Bill) -> Outcome {
         check_key(bill.key)?;
         require(limits::BILL.contains(&bill.amount), Refusal::Amount)?;
         let place = self.place_at_stage(directory, bill.key, FINISHED)?;
         let record = &mut self.records[place];
         record.stage = BILLED;
         record.requirement = bill.amount;
-        Ok(record.requirement)
+        stands(record.requirement)
     }
 
     /// Pay: refusals 2, 3, 4, 11 and 12. "Pay needs 4 and frees the place."
-    fn pay(&mut self, directory: &Directory, payment: Payment) -> Result<i64, Refusal> {
+    fn pay(&mut self, directory: &Directory, payment: Payment) -> Outcome {
         check_key(payment.key)?;
         let place = self.place_at_stage(directory, payment.key, BILLED)?;
         self.records[place] = Record::FREE;
-        Ok(0)
+        stands(0)
     }
 
     /// Support: refusal 9.
-    fn set_support(&mut self, support: Support) -> Result<i64, Refusal> {
+    fn set_support(&mut self, support: Support) -> Outcome {
         check_support(support.amount)?;
         self.support = support.amount;
-        Ok(0)
+        stands(0)
     }
 
     /// The place of an open key at the stage that a message needs: refusal 11
@@ -614,6 +769,7 @@ impl Book {
 /// The answer to any message from a book that is not sound.
 const NOT_SOUND: Answer = Answer {
     refusal: Some(Refusal::BookNotSound),
+    removed: false,
     requirement: 0,
     held: 0,
     net_owed: 0,
@@ -639,7 +795,7 @@ fn check_key(key: Key) -> Result<Kind, Refusal> {
 }
 
 /// Refusal 7 of post and finish: "Kinds 1 to 3 use one price in post and
-/// finish, and their second must be 0."
+/// finish, and their second must be 0." So does kind 5.
 fn check_two_prices(kind: Kind, first: i64, second: i64) -> Result<(), Refusal> {
     let in_range = limits::PRICE.contains(&first) && limits::PRICE.contains(&second);
     let second_fits = kind == Kind::Wheel || second == 0;
@@ -664,14 +820,82 @@ impl Curve<'_> {
         let counted = limits::POINTS.contains(&self.mwh.len());
         let equal = self.mwh.len() == self.prices.len();
         require(counted && equal, Refusal::Points)?;
+        self.check_values()
+    }
+
+    /// Refusals 6 and 7, in this order.
+    fn check_values(&self) -> Result<(), Refusal> {
         let mwh_in_range = self.mwh.iter().all(|mwh| limits::POINT_MWH.contains(mwh));
         require(mwh_in_range, Refusal::Quantity)?;
-        let prices_in_range = self
-            .prices
-            .iter()
-            .all(|price| limits::PRICE.contains(price));
-        require(prices_in_range, Refusal::Price)
+        check_prices(self.prices)
     }
+}
+
+/// Refusal 7 of a list of prices.
+fn check_prices(prices: &[i64]) -> Result<(), Refusal> {
+    let in_range = prices.iter().all(|price| limits::PRICE.contains(price));
+    require(in_range, Refusal::Price)
+}
+
+/// The four interval prices of a listed path.
+type Quote<'a> = &'a [i64];
+
+/// Refusals 3, 4, 5 and 7 of a close, in this order, and then the prices of
+/// each path. "Each once": "5 .. a path listed twice" (02, order 3), or prices
+/// that are not four a path.
+fn check_closing<'a>(
+    closing: Closing,
+    paths: &[u64],
+    prices: &'a [i64],
+) -> Result<BTreeMap<u64, Quote<'a>>, Refusal> {
+    let paths_in_range = paths.iter().all(|path| limits::PATH.contains(path));
+    require(paths_in_range, Refusal::Path)?;
+    require(limits::HOUR.contains(&closing.hour), Refusal::Hour)?;
+    let each_once = paths.iter().collect::<BTreeSet<_>>().len() == paths.len();
+    let four_a_path = prices.len() % INTERVALS == 0 && prices.len() / INTERVALS == paths.len();
+    require(each_once && four_a_path, Refusal::Points)?;
+    check_prices(prices)?;
+    let quotes = prices.chunks_exact(INTERVALS);
+    Ok(paths.iter().copied().zip(quotes).collect())
+}
+
+/// Refusals 2 to 7 of open and revise with four curves, in this order, and
+/// then the record of a pending bid: "On opening a bid is pending (stage 1),
+/// requirement 0" (02, order 3).
+fn pending_record(curves: Curves, points: Curve) -> Result<Record, Refusal> {
+    let kind = check_key(curves.key)?;
+    // Four curves are kind 5's, as one curve is the other kinds'.
+    let four = kind == Kind::QuarterHourExport;
+    require(four && counts_fit(&curves.counts, points), Refusal::Points)?;
+    points.check_values()?;
+    Ok(Record {
+        key: curves.key,
+        stage: BID,
+        intervals: interval_sums(&curves.counts, points.mwh),
+        ..Record::FREE
+    })
+}
+
+/// "An interval has 0 to 64 points"; "5 an interval too long, all four empty"
+/// (02, order 3), or counts that are not those of the two lists.
+fn counts_fit(counts: &[u64; INTERVALS], points: Curve) -> bool {
+    let short_enough = |count| limits::INTERVAL_POINTS.contains(count);
+    let sum: u128 = counts.iter().map(|&count| u128::from(count)).sum();
+    counts.iter().all(short_enough)
+        && sum > 0
+        && sum == points.mwh.len() as u128
+        && sum == points.prices.len() as u128
+}
+
+/// "Points of one interval adding up" (02, order 3): the MWh sum of each
+/// interval, whose points follow those of the interval before.
+fn interval_sums(counts: &[u64; INTERVALS], mwh: &[u64]) -> [u64; INTERVALS] {
+    let mut left = mwh;
+    counts.map(|count| {
+        let (interval, rest) = left.split_at(count as usize);
+        left = rest;
+        whole_mwh(formulas::sum_of_mwh(interval))
+    })
 }
 
 /// "All bids of one key are one group": what open and revise put on record.
@@ -686,6 +910,8 @@ impl Group {
     /// Refusals 2 to 8, in this order, and then the requirement at stage 1.
     fn read(key: Key, curve: Curve, differential: u64, exempt: bool) -> Result<Group, Refusal> {
         let kind = check_key(key)?;
+        // Kind 5 has four curves, and one is no form of its bid.
+        require(kind != Kind::QuarterHourExport, Refusal::Points)?;
         curve.check()?;
         require(
             differential_range(kind).contains(&differential),
@@ -715,11 +941,13 @@ impl Group {
     }
 }
 
-/// The largest MWh of any point, for exports the sum of all.
+/// The largest MWh of any point, for exports the sum of all; 0 for kind 5,
+/// which has no group of one curve.
 fn bid_mwh(kind: Kind, curve: Curve) -> i128 {
     match kind {
         Kind::Import | Kind::Wheel => formulas::largest_mwh(curve.mwh),
         Kind::Export | Kind::HourAheadExport => formulas::sum_of_mwh(curve.mwh),
+        Kind::QuarterHourExport => 0,
     }
 }
 
@@ -732,10 +960,12 @@ fn bid_requirement(kind: Kind, curve: Curve, differential: u64, exempt: bool) ->
         Kind::Export => formulas::export_bid(mwh, prices, differential),
         Kind::HourAheadExport => formulas::hour_ahead_export_bid(mwh, prices),
         Kind::Wheel => formulas::wheel_bid(mwh, prices),
+        Kind::QuarterHourExport => 0,
     }
 }
 
-/// The requirement at stage 2. Post "is not for kind 3 (refusal 12)".
+/// The requirement at stage 2. Post "is not for kind 3 (refusal 12)"; and "12
+/// for posting kind 5" (02, order 3).
 fn posted_requirement(kind: Kind, record: &Record, posting: &Posting) -> Result<i128, Refusal> {
     let schedule = i128::from(posting.schedule);
     let differential = i128::from(record.differential);
@@ -748,7 +978,7 @@ fn posted_requirement(kind: Kind, record: &Record, posting: &Posting) -> Result<
             record.exempt,
         )),
         Kind::Export => Ok(formulas::export_posted(schedule, first, differential)),
-        Kind::HourAheadExport => Err(Refusal::WrongStage),
+        Kind::HourAheadExport | Kind::QuarterHourExport => Err(Refusal::WrongStage),
         Kind::Wheel => {
             let difference = formulas::difference(first, second);
             Ok(formulas::wheel_posted(schedule, difference))
@@ -756,11 +986,12 @@ fn posted_requirement(kind: Kind, record: &Record, posting: &Posting) -> Result<
     }
 }
 
-/// "Finish goes from 2 to 3, for kind 3 from 1 to 3."
+/// "Finish goes from 2 to 3, for kind 3 from 1 to 3"; kind 5 "from stage 2"
+/// (02, order 3).
 fn stage_before_finish(kind: Kind) -> u64 {
     match kind {
         Kind::HourAheadExport => BID,
-        Kind::Import | Kind::Export | Kind::Wheel => POSTED,
+        Kind::Import | Kind::Export | Kind::Wheel | Kind::QuarterHourExport => POSTED,
     }
 }
 
@@ -779,6 +1010,7 @@ fn finished_requirement(kind: Kind, record: &Record, finish: &Finish) -> i128 {
         }
         Kind::Export => formulas::export_finished(posted, schedule, actual, first),
         Kind::HourAheadExport => formulas::hour_ahead_export_finished(actual, first),
+        Kind::QuarterHourExport => formulas::quarter_hour_export_finished(actual, first),
         Kind::Wheel => {
             let difference = formulas::difference(first, second);
             formulas::wheel_finished(posted, schedule, actual, difference)

@@ -117,6 +117,27 @@ pub fn hour_ahead_export_finished(actual: i128, real_time_price: i128) -> i128 {
     max(actual * real_time_price, 0)
 }
 
+/// Hour-Ahead export with four interval curves, kind 5, closed (02, order 3):
+/// "the sum over intervals of price x MWh x a quarter hour, not below 0,
+/// rounded up to a cent once."
+///
+/// Floor and rounding are the bid's: an interval below 0 takes from the
+/// others, and quarters of a cent are added before they are rounded.
+pub fn quarter_hour_export_closed(mwh: &[u64], prices: &[i64]) -> i128 {
+    let quarters: i128 = points(mwh, prices).map(|(mwh, price)| price * mwh).sum();
+    quarters_rounded_up(max(quarters, 0))
+}
+
+/// Whole cents that cover so many quarters of a cent.
+fn quarters_rounded_up(quarters: i128) -> i128 {
+    (quarters + 3) / 4
+}
+
+/// The same, finished (02, order 3): "Max(actual x real-time price, 0)."
+pub fn quarter_hour_export_finished(actual: i128, real_time_price: i128) -> i128 {
+    max(actual * real_time_price, 0)
+}
+
 /// Wheel, bid: "the largest of -(MWh x price) over the points, not below 0."
 pub fn wheel_bid(mwh: &[u64], prices: &[i64]) -> i128 {
     points(mwh, prices)
@@ -216,6 +237,51 @@ mod tests {
         assert_eq!(hour_ahead_export_finished(7, 300), 2100);
         assert_eq!(hour_ahead_export_finished(7, -300), 0);
         assert_eq!(hour_ahead_export_finished(0, 300), 0);
+        assert_eq!(quarter_hour_export_finished(7, 300), 2100);
+        assert_eq!(quarter_hour_export_finished(7, -300), 0);
+    }
+
+    #[test]
+    fn the_example_of_002_needs_4125_dollars() {
+        let mwh = [30 + 40 + 100, 60 + 100, 0, 100];
+        let prices = [3_000, 4_000, 5_000, 5_000];
+        assert_eq!(quarter_hour_export_closed(&mwh, &prices), 412_500);
+    }
+
+    #[test]
+    fn quarters_of_a_cent_are_rounded_up_once() {
+        for (mwh, cents) in [
+            (0, 0),
+            (1, 1),
+            (2, 1),
+            (3, 1),
+            (4, 1),
+            (5, 2),
+            (8, 2),
+            (9, 3),
+        ] {
+            assert_eq!(quarter_hour_export_closed(&[mwh, 0, 0, 0], &[1; 4]), cents);
+        }
+        // A quarter in each interval is a cent, and not four.
+        assert_eq!(quarter_hour_export_closed(&[1; 4], &[1; 4]), 1);
+        assert_eq!(quarter_hour_export_closed(&[1; 4], &[1, 1, 1, 2]), 2);
+        assert_eq!(quarter_hour_export_closed(&[3; 4], &[1; 4]), 3);
+    }
+
+    #[test]
+    fn the_floor_is_under_the_sum_and_not_under_an_interval() {
+        assert_eq!(quarter_hour_export_closed(&[4; 4], &[5, -2, -2, 0]), 1);
+        assert_eq!(quarter_hour_export_closed(&[4; 4], &[5, -2, -3, 0]), 0);
+        assert_eq!(quarter_hour_export_closed(&[4; 4], &[5, -2, -4, 0]), 0);
+        assert_eq!(quarter_hour_export_closed(&[1; 4], &[1, -1, 1, -1]), 0);
+        assert_eq!(quarter_hour_export_closed(&[1; 4], &[2, -1, 0, 0]), 1);
+    }
+
+    #[test]
+    fn a_closed_bid_reaches_the_limit_of_stage_2() {
+        let closed = |price| quarter_hour_export_closed(&[640_000; 4], &[price; 4]);
+        assert_eq!(closed(1_000_000), 640_000_000_000);
+        assert_eq!(closed(-1_000_000), 0);
     }
 
     #[test]

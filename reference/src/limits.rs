@@ -26,7 +26,7 @@ pub const PRICE: RangeInclusive<i64> = -1_000_000..=1_000_000;
 /// "Differential: 0 to 1,000,000", for kinds 1 and 2.
 pub const DIFFERENTIAL: RangeInclusive<u64> = 0..=1_000_000;
 
-/// "Differential: 0 for kinds 3 and 4."
+/// "Differential: 0 for kinds 3 and 4", and for kind 5 (02, order 3).
 pub const NO_DIFFERENTIAL: RangeInclusive<u64> = 0..=0;
 
 /// "Bill: -10^12 to 10^12."
@@ -49,6 +49,18 @@ pub const EARLY_WHEEL_REQUIREMENT: RangeInclusive<i64> = 0..=20_000_000_000;
 
 /// The requirement at "stage 3, within 1,300,000,000,000 of zero".
 pub const FINISHED_REQUIREMENT: RangeInclusive<i64> = -1_300_000_000_000..=1_300_000_000_000;
+
+/// "Four interval curves" (02, order 3), and four prices a path.
+pub const INTERVALS: usize = 4;
+
+/// "An interval has 0 to 64 points" (02, order 3).
+pub const INTERVAL_POINTS: RangeInclusive<u64> = 0..=64;
+
+/// An interval's MWh sum: 64 points of 10,000.
+pub const INTERVAL_MWH: RangeInclusive<u64> = 0..=640_000;
+
+/// Kind 5 at stage 1: "pending (stage 1), requirement 0" (02, order 3).
+pub const PENDING_REQUIREMENT: RangeInclusive<i64> = 0..=0;
 
 /// The import test's numbers, "each 0 to 10^9".
 pub const HISTORY: RangeInclusive<u64> = 0..=1_000_000_000;

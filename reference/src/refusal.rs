@@ -8,13 +8,14 @@
 pub enum Refusal {
     /// 1: "book not sound". "1 gains the totals" (02, order 1).
     BookNotSound = 1,
-    /// 2: "kind not 1 to 4".
+    /// 2: "kind not 1 to 4". "Kinds run to 5" (02, order 3).
     Kind = 2,
-    /// 3: "path out of range".
+    /// 3: "path out of range"; of a close, any listed path.
     Path = 3,
     /// 4: "hour out of range".
     Hour = 4,
-    /// 5: "point count out of range or lists unequal".
+    /// 5: "point count out of range or lists unequal"; "an interval too long,
+    /// all four empty, or a path listed twice" (02, order 3).
     Points = 5,
     /// 6: "a quantity out of range".
     Quantity = 6,
@@ -26,9 +27,10 @@ pub enum Refusal {
     Amount = 9,
     /// 10: "open: key already open".
     KeyAlreadyOpen = 10,
-    /// 11: "other keyed messages: key not open".
+    /// 11: "other keyed messages: key not open"; "when the hour has no pending
+    /// bid or the paths aren't those pending" (02, order 3).
     KeyNotOpen = 11,
-    /// 12: "wrong stage".
+    /// 12: "wrong stage"; "for posting kind 5" (02, order 3).
     WrongStage = 12,
     /// 13: "schedule above bid MWh".
     ScheduleAboveBid = 13,
@@ -38,6 +40,7 @@ pub enum Refusal {
     BookFull = 15,
     /// 16: "open: held + requirement above support; revise: the new
     /// requirement is above the old and held afterwards is above support".
+    /// "Never for opening kind 5" (02, order 3).
     AboveSupport = 16,
     /// 17: "import test: windows contradict".
     WindowsContradict = 17,

@@ -8,8 +8,8 @@ use std::fmt::Write as _;
 use std::io::{Read, Write as _};
 
 use reference::book::{
-    Answer, Bill, Book, Finish, Key, Message, Opening, Payment, Posting, Record, Revision, Support,
-    Withdrawal,
+    Answer, Bill, Book, Closing, Curves, Finish, Key, Message, Opening, Payment, Posting, Record,
+    Revision, Support, Withdrawal,
 };
 use reference::chart::{self, Table};
 use reference::history::{self, Window};
@@ -18,6 +18,8 @@ const MODULUS: u64 = 2_147_483_647;
 const MULTIPLIER: u64 = 48_271;
 const MOST_SUPPORT: i64 = 1_000_000_000_000_000;
 const PLACES: usize = 256;
+/// Hour-Ahead exports with four interval curves (02, order 3).
+const FOUR_CURVES: u64 = 5;
 
 const OPEN: u64 = 1;
 const REVISE: u64 = 2;
@@ -27,6 +29,9 @@ const FINISH: u64 = 5;
 const BILL: u64 = 6;
 const PAY: u64 = 7;
 const SUPPORT: u64 = 8;
+const OPEN_CURVES: u64 = 9;
+const REVISE_CURVES: u64 = 10;
+const CLOSE: u64 = 11;
 
 /// The rows of the coverage table, by what is met there. Each part starts at
 /// a number of its own and has room for more.
@@ -43,25 +48,40 @@ mod rows {
     const KINDS_BELOW: u64 = 8;
     /// Refusals 1 to 31.
     const OVER_LATER: u64 = 640;
-    /// To 703.
+    /// To 683; then refusals 1 to 7 of four curves, and of a close.
     const PAIRS: u64 = 672;
+    const CURVES_OVER_LATER: u64 = 684;
+    const CLOSE_OVER_LATER: u64 = 692;
     const FRESH: u64 = 704;
     const TESTS: u64 = 708;
     const LOOKS: u64 = 712;
     const SUSPENSION: u64 = 716;
     const PLACES: u64 = 720;
+    /// To 735.
     const EDGES: u64 = 728;
+    /// To 767. A batch that is kept, and next to it the same of one removed.
+    const CLOSES: u64 = 736;
     /// To 959: fields 0 to 95.
     const CHANGES: u64 = 768;
     const FIELDS_BELOW: u64 = 96;
-    /// To 1,023.
+    /// To 975.
     const REBUILT: u64 = 960;
+    /// To 1,023: kind 5, at stages 0 to 7 where it has one.
+    const QUARTERS: u64 = 976;
+    const ACCEPTED_AT_STAGE: u64 = 992;
+    const WRONG_STAGE: u64 = 1_000;
+    const STAGES_BELOW: u64 = 8;
 
     pub const TEN_OVER_FIFTEEN: u64 = PAIRS;
     pub const TWELVE_OVER_THIRTEEN: u64 = PAIRS + 1;
     pub const FOURTEEN_OVER_FIFTEEN: u64 = PAIRS + 2;
     pub const FOURTEEN_OVER_SIXTEEN: u64 = PAIRS + 3;
     pub const FIFTEEN_OVER_SIXTEEN: u64 = PAIRS + 4;
+    pub const CURVES_TEN_OVER_FOURTEEN: u64 = PAIRS + 5;
+    pub const CURVES_TEN_OVER_FIFTEEN: u64 = PAIRS + 6;
+    pub const CURVES_FOURTEEN_OVER_FIFTEEN: u64 = PAIRS + 7;
+    pub const CURVES_TWELVE_OVER_FOURTEEN: u64 = PAIRS + 8;
+    pub const KIND_5_TWELVE_OVER_THIRTEEN: u64 = PAIRS + 9;
     pub const FRESH_ACCEPTED: u64 = FRESH;
     pub const FRESH_REFUSED: u64 = FRESH + 1;
     pub const EXEMPT: u64 = TESTS;
@@ -89,6 +109,36 @@ mod rows {
     pub const SUPPORT_STILL_WRONG: u64 = REBUILT + 3;
     pub const KEYS_STILL_WRONG: u64 = REBUILT + 4;
     pub const PLACE_STILL_WRONG: u64 = REBUILT + 5;
+    pub const BATCH: u64 = CLOSES;
+    pub const BATCH_AT_SUPPORT: u64 = CLOSES + 2;
+    pub const BATCH_ADDS_0: u64 = CLOSES + 4;
+    pub const BATCH_OF_SEVERAL: u64 = CLOSES + 6;
+    pub const BATCH_WHILE_SUSPENDED: u64 = CLOSES + 8;
+    pub const OTHER_ORDER: u64 = CLOSES + 10;
+    pub const CLOSE_ON_FULL_BOOK: u64 = CLOSES + 11;
+    pub const NO_PENDING_BID: u64 = CLOSES + 12;
+    pub const NONE_LISTED: u64 = CLOSES + 13;
+    pub const ONE_LEFT_OUT: u64 = CLOSES + 14;
+    pub const ONE_CLOSED_ALREADY: u64 = CLOSES + 15;
+    pub const ONE_NOT_PENDING: u64 = CLOSES + 16;
+    pub const PATHS_OF_ANOTHER_HOUR: u64 = CLOSES + 17;
+    pub const PATH_TWICE: u64 = CLOSES + 18;
+    pub const PRICES_ONE_SHORT: u64 = CLOSES + 19;
+    pub const PRICES_ONE_MORE: u64 = CLOSES + 20;
+    pub const PRICES_ONE_A_PATH: u64 = CLOSES + 21;
+    pub const FIRST_PATH: u64 = CLOSES + 22;
+    pub const LAST_PATH: u64 = CLOSES + 23;
+    pub const FIRST_PRICE: u64 = CLOSES + 24;
+    pub const LAST_PRICE: u64 = CLOSES + 25;
+    pub const OPEN_ABOVE_SUPPORT: u64 = QUARTERS;
+    pub const REVISE_ABOVE_SUPPORT: u64 = QUARTERS + 1;
+    pub const INTERVAL_EMPTY: u64 = QUARTERS + 2;
+    pub const INTERVALS_FULL: u64 = QUARTERS + 3;
+    /// By the way of fault 5.
+    pub const CURVES_FAULTY: u64 = QUARTERS + 4;
+    pub const ONE_CURVE_FOR_KIND_5: u64 = QUARTERS + 11;
+    pub const FOUR_CURVES_FOR_OTHERS: u64 = QUARTERS + 12;
+    pub const PENDING_WITH_REQUIREMENT: u64 = QUARTERS + 13;
 
     /// A message that was answered so; 0 is acceptance.
     pub fn answer(message: u64, number: u64) -> u64 {
@@ -106,6 +156,28 @@ mod rows {
     pub fn over_later(number: u64) -> u64 {
         assert!(number < NUMBERS_BELOW);
         OVER_LATER + number
+    }
+
+    /// The same by message, for those of order 3; a close when `close`.
+    pub fn order_3_over_later(close: bool, number: u64) -> u64 {
+        assert!(number < 8);
+        number
+            + if close {
+                CLOSE_OVER_LATER
+            } else {
+                CURVES_OVER_LATER
+            }
+    }
+
+    /// A message to a record of kind 5 at a stage, accepted, or refused 12.
+    pub fn at_stage(stage: u64, accepted: bool) -> u64 {
+        assert!(stage < STAGES_BELOW);
+        stage
+            + if accepted {
+                ACCEPTED_AT_STAGE
+            } else {
+                WRONG_STAGE
+            }
     }
 
     /// A changed field, where the book is still sound, or no longer.
@@ -143,6 +215,7 @@ impl Digest {
         self.mix_cents(answer.requirement);
         self.mix_cents(answer.held);
         self.mix_cents(answer.net_owed);
+        self.mix(u64::from(answer.removed));
     }
 
     /// What a book keeps beside its records.
@@ -159,21 +232,54 @@ impl Digest {
         self.mix(u64::from(book.is_suspended()));
     }
 
+    /// What it keeps, then each place that is not free, as one value.
     fn mix_book(&mut self, book: &Book) {
         self.mix_account(book);
-        for record in &book.records {
-            self.mix(record.key.kind);
-            self.mix(record.key.path);
-            self.mix(record.key.hour);
-            self.mix(record.stage);
-            self.mix(record.bid_mwh);
-            self.mix(record.differential);
-            self.mix(u64::from(record.exempt));
-            self.mix(record.schedule);
-            self.mix_cents(record.day_ahead_price);
-            self.mix_cents(record.requirement);
+        for (place, record) in (1..).zip(&book.records) {
+            if *record != Record::FREE {
+                self.mix(weighed(place, record));
+            }
         }
     }
+}
+
+/// The sum of a number's halves.
+fn folded(value: u64) -> u64 {
+    (value >> 32) + (value & 0xffff_ffff)
+}
+
+fn folded_cents(cents: i64) -> u64 {
+    2 * folded(cents.unsigned_abs()) + u64::from(cents < 0)
+}
+
+/// The number of a place and all that its record has, each folded and with a
+/// multiplier of its own.
+fn weighed(place: u64, record: &Record) -> u64 {
+    let [first, second, third, fourth] = record.intervals;
+    let values = [
+        folded(place),
+        folded(record.key.kind),
+        folded(record.key.path),
+        folded(record.key.hour),
+        folded(record.stage),
+        folded(record.bid_mwh),
+        folded(record.differential),
+        u64::from(record.exempt),
+        folded(record.schedule),
+        folded_cents(record.day_ahead_price),
+        folded_cents(record.requirement),
+        folded(first),
+        folded(second),
+        folded(third),
+        folded(fourth),
+    ];
+    let mut power = 1;
+    let mut sum = 0;
+    for value in values {
+        power = next(power);
+        sum += value * (power % (1 << 25));
+    }
+    sum
 }
 
 /// The 23 draws of a turn, in their order.
@@ -240,7 +346,42 @@ impl Draws {
     }
 
     fn key_is_from_place(&self, message: u64) -> bool {
-        (message == OPEN) == (self.source % 8 == 0)
+        opens(message) == (self.source % 8 == 0)
+    }
+
+    /// Fault 5 gives a bid the other form: one curve for four, or four for
+    /// one.
+    fn has_other_form(&self) -> bool {
+        self.has(5) && self.count % 8 == 7
+    }
+
+    /// Whether a fault in a list stands at its start.
+    fn faulty_first(&self) -> bool {
+        self.count / 256 % 2 == 0
+    }
+}
+
+fn opens(message: u64) -> bool {
+    message == OPEN || message == OPEN_CURVES
+}
+
+fn has_curves(message: u64) -> bool {
+    message == OPEN_CURVES || message == REVISE_CURVES
+}
+
+/// An open or a revise, of either form.
+fn bids(message: u64) -> bool {
+    message == OPEN || message == REVISE || has_curves(message)
+}
+
+/// An open or a revise in the form of its kind; of the kinds that are none,
+/// every other has four curves.
+fn formed(draws: &Draws, message: u64, kind: u64) -> u64 {
+    let four = kind >= FOUR_CURVES && kind % 2 == 1;
+    match (message, four != draws.has_other_form()) {
+        (OPEN, true) => OPEN_CURVES,
+        (REVISE, true) => REVISE_CURVES,
+        _ => message,
     }
 }
 
@@ -255,7 +396,7 @@ const DIFFERENTIALS: [u64; 8] = [0, 1, 1_200, 1_400, 4_000, 6_000, 999_999, 1_00
 const TEST_BIDS: [u64; 8] = [0, 1, 49, 50, 51, 100, 1_000_000_000, 1_000_000_001];
 const TEST_MWH: [u64; 8] = [0, 1, 99, 100, 101, 400, 1_000_000_000, 1_000_000_001];
 const TEST_LOSS: [u64; 8] = [0, 1, 24, 25, 26, 100, 1_000_000_000, 1_000_000_001];
-const KINDS_OUT: [u64; 8] = [0, 5, 6, 7, 8, 9, 10, u64::MAX];
+const KINDS_OUT: [u64; 8] = [0, 6, 7, 8, 9, 10, 11, u64::MAX];
 const PATHS_OUT: [u64; 8] = [0, 1_000, 1_001, 1_002, 2_000, 3_000, 4_000, u64::MAX];
 const HOURS_OUT: [u64; 8] = [
     1_000_000, 1_000_001, 1_000_002, 2_000_000, 3_000_000, 4_000_000, 5_000_000, u64::MAX,
@@ -328,6 +469,10 @@ struct Ask {
     first_price: i64,
     second_price: i64,
     cents: i64,
+    /// The points of each interval, for messages that have four curves.
+    counts: [u64; 4],
+    /// How many pending bids the hour of a close has.
+    pending: usize,
 }
 
 impl Ask {
@@ -362,16 +507,26 @@ impl Ask {
                 amount: self.cents,
             }),
             PAY => Message::Pay(Payment { key }),
+            OPEN_CURVES => Message::OpenCurves(Curves {
+                key,
+                counts: self.counts,
+            }),
+            REVISE_CURVES => Message::ReviseCurves(Curves {
+                key,
+                counts: self.counts,
+            }),
+            CLOSE => Message::Close(Closing { hour: key.hour }),
             _ => Message::Support(Support { amount: self.cents }),
         }
     }
 }
 
-/// A turn's draws, its message, and the points beside it.
+/// A turn's draws, its message, and the lists beside it: points, or the paths
+/// and prices of a close.
 struct Turn {
     draws: Draws,
     ask: Ask,
-    mwh: Vec<u64>,
+    numbers: Vec<u64>,
     prices: Vec<i64>,
 }
 
@@ -380,6 +535,7 @@ fn onward(record: &Record) -> u64 {
     match record.stage {
         0 => OPEN,
         1 if record.key.kind == 3 => FINISH,
+        1 if record.key.kind == FOUR_CURVES => CLOSE,
         1 => POST,
         2 => FINISH,
         3 => BILL,
@@ -431,10 +587,14 @@ impl Run {
     }
 
     fn message_of(&self, draws: &Draws, record: &Record) -> u64 {
-        let any = draws.message / 2 % 8 + 1;
+        let any = match draws.message / 2 % 9 + 1 {
+            9 => CLOSE,
+            any => any,
+        };
         let season = self.season();
         let many = season == 2 && self.open >= 3;
-        if draws.message % 2 == 0 && !(many && any == OPEN) {
+        let passed_over = many && any == OPEN || season == 0 && any == CLOSE;
+        if draws.message % 2 == 0 && !passed_over {
             return any;
         }
         match (season, record.stage) {
@@ -450,7 +610,7 @@ impl Run {
             record.key
         } else {
             Key {
-                kind: draws.kind % 4 + 1,
+                kind: draws.kind % 5 + 1,
                 path: one_of(&PATHS, draws.path),
                 hour: hour(draws.hour),
             }
@@ -471,7 +631,7 @@ impl Run {
         let message = self.message_of(draws, record);
         let key = self.key_of(draws, record, message);
         Ask {
-            message,
+            message: formed(draws, message, key.kind),
             key,
             differential: differential_of(draws, key.kind),
             exempt: draws.exempt % 4 == 0,
@@ -479,7 +639,78 @@ impl Run {
             first_price: first_price_of(draws, key.kind),
             second_price: second_price_of(draws, key.kind),
             cents: self.cents_of(draws, message),
+            counts: [0; 4],
+            pending: 0,
         }
+    }
+
+    /// The paths of the pending bids of an hour, by place, or in another
+    /// order: each place is passed once, from any one on, by any odd step.
+    fn pending_paths(&self, draws: &Draws, hour: u64) -> Vec<u64> {
+        let w = draws.quantity / 16;
+        let (start, step) = if w % 2 == 0 {
+            (0, 1)
+        } else {
+            (w / 2 % 256, w / 512 % 128 * 2 + 1)
+        };
+        (0..PLACES as u64)
+            .map(|i| &self.book.records[((start + i * step) % PLACES as u64) as usize])
+            .filter(|record| record.stage == 1 && record.key.kind == FOUR_CURVES)
+            .filter(|record| record.key.hour == hour)
+            .map(|record| record.key.path)
+            .collect()
+    }
+
+    /// A close: which paths it lists, and how many prices.
+    fn list_close(&self, draws: &Draws, record: &Record, ask: &mut Ask) -> (Vec<u64>, usize) {
+        let mut paths = self.pending_paths(draws, ask.key.hour);
+        ask.pending = paths.len();
+        match listing_way(draws) {
+            LEAVES_OUT => drop(paths.pop()),
+            ADDS_ONE | ADDS_ONE_TOO => paths.push(one_more_path(draws, record)),
+            NAMES_ANOTHER_HOUR => ask.key.hour = other_hour(ask.key.hour),
+            LISTS_NONE => paths.clear(),
+            _ => {}
+        }
+        if draws.has(3) {
+            let out = one_of(&PATHS_OUT, draws.path);
+            match paths.len() {
+                0 => paths.push(out),
+                n => paths[if draws.faulty_first() { 0 } else { n - 1 }] = out,
+            }
+        }
+        let way = if draws.has(5) { draws.count % 4 } else { 4 };
+        if way == 0 {
+            if paths.is_empty() {
+                paths.push(one_of(&PATHS, draws.path));
+            }
+            paths.push(paths[0]);
+        }
+        let n = paths.len();
+        let prices = match way {
+            1 if n == 0 => 1,
+            1 => 4 * n - 1,
+            2 => 4 * n + 1,
+            3 => n.max(1),
+            _ => 4 * n,
+        };
+        (paths, prices)
+    }
+
+    /// The lists beside the message.
+    fn lists_of(&self, draws: &Draws, record: &Record, ask: &mut Ask) -> (Vec<u64>, Vec<i64>) {
+        if ask.message == CLOSE {
+            let (paths, prices) = self.list_close(draws, record, ask);
+            return (paths, price_points(draws, prices));
+        }
+        let (mwh, prices) = if has_curves(ask.message) {
+            let (counts, mwh, prices) = four_counts_of(draws);
+            ask.counts = counts;
+            (mwh, prices)
+        } else {
+            counts_of(draws)
+        };
+        (mwh_points(draws, mwh), price_points(draws, prices))
     }
 
     fn cents_of(&self, draws: &Draws, message: u64) -> i64 {
@@ -507,14 +738,14 @@ impl Run {
     fn is_tight(&self, draws: &Draws, message: u64) -> bool {
         let w = draws.tight;
         let often_enough = w % 8 == 0 && (self.season() != 0 || w / 8 % 8 == 0);
-        (message == OPEN || message == REVISE) && !self.again && often_enough
+        [OPEN, REVISE, CLOSE].contains(&message) && !self.again && often_enough
     }
 
     /// What the message would leave held with the largest support.
-    fn trial_held(&self, ask: &Ask, mwh: &[u64], prices: &[i64]) -> i64 {
+    fn trial_held(&self, ask: &Ask, numbers: &[u64], prices: &[i64]) -> i64 {
         let mut aside = self.book.clone();
         aside.support = MOST_SUPPORT;
-        aside.apply(ask.message(), mwh, prices).held
+        aside.apply(ask.message(), numbers, prices).held
     }
 
     /// One more message, answered.
@@ -579,10 +810,10 @@ impl Run {
     fn set_aside(&mut self, turn: &Turn, mut aside: Book) -> (u64, bool) {
         let sound = aside.is_sound();
         self.digest.mix_screen(&aside);
-        let answer = aside.apply(turn.ask.message(), &turn.mwh, &turn.prices);
+        let answer = aside.apply(turn.ask.message(), &turn.numbers, &turn.prices);
         let number = answer.number();
         if number == 1 {
-            self.count_answer(&turn.draws, turn.ask.message, 1);
+            self.count_answer(turn, 1);
         }
         self.answered(&answer);
         self.digest.mix_book(&aside);
@@ -600,6 +831,8 @@ impl Run {
         let (number, sound) = self.set_aside(turn, self.changed(turn, change));
         let row = rows::change(field_of(change), sound);
         self.count(sound != (number == 1), row);
+        let not_0 = !sound && number == 1 && gives_pending_a_requirement(change);
+        self.count(not_0, rows::PENDING_WITH_REQUIREMENT);
     }
 
     fn probe_tampered(&mut self, turn: &Turn) {
@@ -651,27 +884,141 @@ impl Run {
     }
 
     /// The rows of a message's answer, and of a later fault under it.
-    fn count_answer(&mut self, draws: &Draws, message: u64, number: u64) {
+    fn count_answer(&mut self, turn: &Turn, number: u64) {
+        let message = turn.ask.message;
         self.count(true, rows::answer(message, number));
         let faulty = (1..=7).contains(&number);
-        let over_later = faulty && has_later(draws, message, number);
-        self.count(over_later, rows::over_later(number));
+        if faulty && has_later(turn, number) {
+            self.count(true, rows::over_later(number));
+            let of_order_3 = has_curves(message) || message == CLOSE;
+            let row = rows::order_3_over_later(message == CLOSE, number);
+            self.count(of_order_3, row);
+        }
     }
 
     /// Two refusals at once, of those that the book's state brings.
-    fn count_two(&mut self, message: u64, number: u64, above: bool) {
+    fn count_two(&mut self, ask: &Ask, number: u64, above: bool) {
         let full = self.open == 256;
         let short = self.book.support < self.held;
-        let opens = message == OPEN;
-        let row = match number {
-            10 if full => rows::TEN_OVER_FIFTEEN,
-            12 if message == POST && above => rows::TWELVE_OVER_THIRTEEN,
-            14 if opens && full => rows::FOURTEEN_OVER_FIFTEEN,
-            14 if opens && short => rows::FOURTEEN_OVER_SIXTEEN,
-            15 if short => rows::FIFTEEN_OVER_SIXTEEN,
+        let suspended = self.book.is_suspended();
+        let row = match (number, ask.message) {
+            (10, OPEN) if full => rows::TEN_OVER_FIFTEEN,
+            (10, OPEN_CURVES) if full => rows::CURVES_TEN_OVER_FIFTEEN,
+            (10, OPEN_CURVES) if suspended => rows::CURVES_TEN_OVER_FOURTEEN,
+            (12, POST) if above && ask.key.kind == FOUR_CURVES => rows::KIND_5_TWELVE_OVER_THIRTEEN,
+            (12, POST) if above => rows::TWELVE_OVER_THIRTEEN,
+            (12, REVISE_CURVES) if suspended => rows::CURVES_TWELVE_OVER_FOURTEEN,
+            (14, OPEN) if full => rows::FOURTEEN_OVER_FIFTEEN,
+            (14, OPEN_CURVES) if full => rows::CURVES_FOURTEEN_OVER_FIFTEEN,
+            (14, OPEN) if short => rows::FOURTEEN_OVER_SIXTEEN,
+            (15, OPEN) if short => rows::FIFTEEN_OVER_SIXTEEN,
             _ => return,
         };
         self.count(true, row);
+    }
+
+    /// A batch that was kept, or removed: each row of it.
+    fn count_batch(&mut self, turn: &Turn, answer: &Answer) {
+        let Turn { draws, ask, .. } = turn;
+        let several = turn.numbers.len() >= 2;
+        let one_short = self.again && draws.tight / 64 % 3 == 0;
+        let at_support = if answer.removed {
+            one_short
+        } else {
+            answer.held == self.book.support
+        };
+        let adds = self.trial_held(ask, &turn.numbers, &turn.prices) - self.book.held;
+        let suspended = self.book.is_suspended();
+        let removed = u64::from(answer.removed);
+        self.count(true, rows::BATCH + removed);
+        self.count(at_support, rows::BATCH_AT_SUPPORT + removed);
+        self.count(adds == 0, rows::BATCH_ADDS_0 + removed);
+        self.count(several, rows::BATCH_OF_SEVERAL + removed);
+        self.count(suspended, rows::BATCH_WHILE_SUSPENDED + removed);
+        let other_order = draws.quantity / 16 % 2 == 1;
+        self.count(several && other_order, rows::OTHER_ORDER);
+        self.count(self.open == 256, rows::CLOSE_ON_FULL_BOOK);
+    }
+
+    /// Why a close was refused.
+    fn count_close_refused(&mut self, turn: &Turn, record: &Record, number: u64) {
+        let Turn { draws, ask, .. } = turn;
+        let first = draws.faulty_first();
+        let closed = record.key.kind == FOUR_CURVES
+            && record.key.hour == ask.key.hour
+            && record.stage >= 2;
+        let none_pending = ask.pending == 0;
+        let row = match number {
+            3 if first => rows::FIRST_PATH,
+            3 if turn.numbers.len() >= 2 => rows::LAST_PATH,
+            5 => match draws.count % 4 {
+                1 if draws.has(5) => rows::PRICES_ONE_SHORT,
+                2 if draws.has(5) => rows::PRICES_ONE_MORE,
+                3 if draws.has(5) => rows::PRICES_ONE_A_PATH,
+                _ => rows::PATH_TWICE,
+            },
+            7 if first => rows::FIRST_PRICE,
+            7 => rows::LAST_PRICE,
+            11 => match listing_way(draws) {
+                ADDS_ONE | ADDS_ONE_TOO if closed => rows::ONE_CLOSED_ALREADY,
+                ADDS_ONE | ADDS_ONE_TOO => rows::ONE_NOT_PENDING,
+                NAMES_ANOTHER_HOUR if none_pending => return,
+                NAMES_ANOTHER_HOUR => rows::PATHS_OF_ANOTHER_HOUR,
+                _ if none_pending => rows::NO_PENDING_BID,
+                LEAVES_OUT => rows::ONE_LEFT_OUT,
+                LISTS_NONE => rows::NONE_LISTED,
+                _ => return,
+            },
+            _ => return,
+        };
+        self.count(true, row);
+    }
+
+    /// Four curves, accepted or refused 5; and one curve for kind 5.
+    fn count_curves(&mut self, turn: &Turn, number: u64) {
+        let Turn { draws, ask, .. } = turn;
+        let other_form = draws.has_other_form();
+        let way = if draws.has(5) { draws.count % 8 } else { 0 };
+        match (number, ask.message) {
+            (0, OPEN_CURVES | REVISE_CURVES) => {
+                let short = self.book.support < self.held;
+                let opens = ask.message == OPEN_CURVES;
+                self.count(short && opens, rows::OPEN_ABOVE_SUPPORT);
+                self.count(short && !opens, rows::REVISE_ABOVE_SUPPORT);
+                self.count(ask.counts.contains(&0), rows::INTERVAL_EMPTY);
+                self.count(ask.counts == [64; 4], rows::INTERVALS_FULL);
+            }
+            (5, OPEN_CURVES | REVISE_CURVES) if other_form => {
+                self.count(true, rows::FOUR_CURVES_FOR_OTHERS);
+            }
+            (5, OPEN_CURVES | REVISE_CURVES) => self.count(true, rows::CURVES_FAULTY + way),
+            (5, OPEN | REVISE) if ask.key.kind == FOUR_CURVES => {
+                self.count(true, rows::ONE_CURVE_FOR_KIND_5);
+            }
+            _ => {}
+        }
+    }
+
+    /// Kind 5 at each stage, accepted or at the wrong one.
+    fn count_stage(&mut self, turn: &Turn, record: &Record, number: u64) {
+        let Turn { draws, ask, .. } = turn;
+        let keyed = !opens(ask.message) && ask.message != SUPPORT && ask.message != CLOSE;
+        let named = keyed && draws.key_is_from_place(ask.message);
+        let applies = named && record.key.kind == FOUR_CURVES && (number == 0 || number == 12);
+        if applies {
+            self.count(true, rows::at_stage(record.stage, number == 0));
+        }
+    }
+
+    /// The rows of order 3.
+    fn count_order_3(&mut self, turn: &Turn, record: &Record, answer: &Answer) {
+        let number = answer.number();
+        match (turn.ask.message, number) {
+            (CLOSE, 0) => self.count_batch(turn, answer),
+            (CLOSE, _) => self.count_close_refused(turn, record, number),
+            _ => self.count_curves(turn, number),
+        }
+        self.count_stage(turn, record, number);
     }
 
     fn count_edges(&mut self, draws: &Draws, message: u64, answer: &Answer) {
@@ -693,41 +1040,47 @@ impl Run {
 
     fn count_suspension(&mut self, message: u64, number: u64) {
         let on = number == 14 && !self.suspended;
-        let off = number == 0 && message <= REVISE && self.suspended;
+        let off = number == 0 && bids(message) && self.suspended;
         self.count(on, rows::SUSPENSION_ON);
         self.count(off, rows::SUSPENSION_OFF);
         self.suspended = (self.suspended || on) && !off;
     }
 
-    fn count_places(&mut self, message: u64, number: u64) {
-        let opens = message == OPEN && number == 0;
-        let frees = (message == WITHDRAW || message == PAY) && number == 0;
+    fn count_places(&mut self, turn: &Turn, answer: &Answer) {
+        let message = turn.ask.message;
+        let accepted = answer.number() == 0;
+        let opens = opens(message) && accepted;
+        let frees = match message {
+            WITHDRAW | PAY if accepted => 1,
+            _ if answer.removed => turn.numbers.len() as u64,
+            _ => 0,
+        };
         match self.open {
             0 => self.count(true, rows::ALL_FREE),
             255 => self.count(true, rows::ONE_FREE),
             256 => self.count(true, rows::NONE_FREE),
             open => self.count(opens && open < self.most_open, rows::PLACE_USED_AGAIN),
         }
-        self.open = self.open + u64::from(opens) - u64::from(frees);
+        self.open = self.open + u64::from(opens) - frees;
         self.most_open = self.most_open.max(self.open);
     }
 
     /// What a turn draws, before its message is sent.
     fn drawn(&self) -> (Turn, Record, bool) {
         let draws = Draws::of(self.seed);
-        let (mwh, prices) = (mwh_points(&draws), price_points(&draws));
         let record = self.book.records[self.place_of(&draws)];
         let mut ask = self.ask_of(&draws, &record);
+        let (numbers, prices) = self.lists_of(&draws, &record, &mut ask);
         let tight = self.is_tight(&draws, ask.message);
         if tight {
-            let held = self.trial_held(&ask, &mwh, &prices);
+            let held = self.trial_held(&ask, &numbers, &prices);
             ask.message = SUPPORT;
             ask.cents = near(held.unsigned_abs(), draws.tight / 64);
         }
         let turn = Turn {
             draws,
             ask,
-            mwh,
+            numbers,
             prices,
         };
         (turn, record, tight)
@@ -749,42 +1102,40 @@ impl Run {
     fn turn(&mut self, window: &std::ops::Range<u64>, out: &mut String) {
         let (turn, record, tight) = self.drawn();
         self.beside(&turn);
-        let Turn {
-            draws,
-            ask,
-            mwh,
-            prices,
-        } = turn;
+        let ask = turn.ask;
         let mut next = self.book.clone();
-        let answer = next.apply(ask.message(), &mwh, &prices);
-        let above = draws.key_is_from_place(ask.message) && record.bid_mwh < ask.quantity;
+        let answer = next.apply(ask.message(), &turn.numbers, &turn.prices);
+        let above = turn.draws.key_is_from_place(ask.message) && record.bid_mwh < ask.quantity;
         let number = answer.number();
-        self.count_answer(&draws, ask.message, number);
-        if number == 0 && ask.message != SUPPORT {
+        self.count_answer(&turn, number);
+        if number == 0 && ask.message != SUPPORT && ask.message != CLOSE {
             self.count(true, rows::kind(ask.message, ask.key.kind));
         }
-        self.count_two(ask.message, number, above);
-        self.count_edges(&draws, ask.message, &answer);
+        self.count_two(&ask, number, above);
+        self.count_edges(&turn.draws, ask.message, &answer);
+        self.count_order_3(&turn, &record, &answer);
         self.answered(&answer);
         self.count_suspension(ask.message, number);
-        self.count_places(ask.message, number);
+        self.count_places(&turn, &answer);
         self.held = answer.held;
         self.net_owed = answer.net_owed;
         self.book = next;
         if window.contains(&self.turn) || self.turn % 4_096 == 4_095 {
-            self.print_turn(out, &ask, mwh.len(), prices.len(), &answer);
+            self.print_turn(out, &turn, &answer);
         }
         self.again = tight;
         if !tight {
-            self.seed = draws.last;
+            self.seed = turn.draws.last;
         }
         self.turn += 1;
     }
 
-    fn print_turn(&self, out: &mut String, ask: &Ask, mwh: usize, prices: usize, answer: &Answer) {
+    fn print_turn(&self, out: &mut String, turn: &Turn, answer: &Answer) {
+        let ask = &turn.ask;
+        let [first, second, third, fourth] = ask.counts;
         let _ = writeln!(
             out,
-            "turn {} {} {} {} {} {} {} {} {} {} {} {} {} : {} {} {} {} {}",
+            "turn {} {} {} {} {} {} {} {} {} {} {} {} {} {first} {second} {third} {fourth} : {} {} {} {} {} {}",
             self.turn,
             ask.message,
             ask.key.kind,
@@ -796,12 +1147,13 @@ impl Run {
             ask.first_price,
             ask.second_price,
             ask.cents,
-            mwh,
-            prices,
+            turn.numbers.len(),
+            turn.prices.len(),
             answer.number(),
             answer.requirement,
             answer.held,
             answer.net_owed,
+            u64::from(answer.removed),
             self.digest.0,
         );
     }
@@ -818,11 +1170,16 @@ fn differential_of(draws: &Draws, kind: u64) -> u64 {
 
 fn quantity_of(draws: &Draws, record: &Record) -> u64 {
     let w = draws.quantity;
+    let bid_mwh = if record.key.kind == FOUR_CURVES {
+        record.intervals[0]
+    } else {
+        record.bid_mwh
+    };
     match w % 8 {
         _ if draws.has(6) => one_of(&QUANTITIES_OUT, w),
         0 => 0,
-        1..=3 => record.bid_mwh,
-        4 => record.bid_mwh % 640_000 + 1,
+        1..=3 => bid_mwh,
+        4 => bid_mwh % 640_000 + 1,
         5 => 640_000,
         6 => record.schedule,
         _ => w / 8 % 10_001,
@@ -857,12 +1214,12 @@ fn usual_count(w: u64) -> usize {
     }
 }
 
-/// The lengths of the two lists.
+/// The lengths of the two lists of one curve.
 fn counts_of(draws: &Draws) -> (usize, usize) {
     let w = draws.count;
     let n = usual_count(w);
     match w % 4 {
-        _ if !draws.has(5) => (n, n),
+        _ if !draws.has(5) || draws.has_other_form() => (n, n),
         0 => (0, 0),
         1 => (65, 65),
         2 => (n, n + 1),
@@ -870,17 +1227,77 @@ fn counts_of(draws: &Draws) -> (usize, usize) {
     }
 }
 
+fn usual_four_counts(w: u64) -> [u64; 4] {
+    let v = w / 16;
+    match w % 16 {
+        0 => [64; 4],
+        1 => [63, 0, 64, 1],
+        _ => [v % 4, v / 4 % 4, v / 16 % 4, v / 64 % 4],
+    }
+}
+
+/// The counts of four curves, and the lengths of the two lists.
+fn four_counts_of(draws: &Draws) -> ([u64; 4], usize, usize) {
+    let w = draws.count;
+    let way = if draws.has(5) { w % 8 } else { 7 };
+    let mut counts = usual_four_counts(w);
+    match way {
+        0 => counts = [0; 4],
+        1 => counts[(w / 16 % 4) as usize] = 65,
+        _ => {}
+    }
+    let sum = counts.iter().sum::<u64>();
+    let n = sum as usize;
+    match way {
+        2 => return (counts, n, n + 1),
+        3 => return (counts, n / 2, n),
+        4 => counts[0] += 1,
+        5 => counts[3] = u64::MAX,
+        6 => counts = [u64::MAX, sum + 1, 0, 0],
+        _ => {}
+    }
+    (counts, n, n)
+}
+
+/// How a close lists its paths; else they are those that are pending.
+const LEAVES_OUT: u64 = 11;
+const ADDS_ONE: u64 = 12;
+const ADDS_ONE_TOO: u64 = 13;
+const NAMES_ANOTHER_HOUR: u64 = 14;
+const LISTS_NONE: u64 = 15;
+
+fn listing_way(draws: &Draws) -> u64 {
+    draws.quantity % 16
+}
+
+/// The path of the record at the place drawn, or any.
+fn one_more_path(draws: &Draws, record: &Record) -> u64 {
+    if record.stage == 0 {
+        one_of(&PATHS, draws.path)
+    } else {
+        record.key.path
+    }
+}
+
+/// The hour beside this one, where it is an hour.
+fn other_hour(hour: u64) -> u64 {
+    match hour {
+        1_000_000.. => hour,
+        _ if hour % 2 == 0 => hour + 1,
+        _ => hour - 1,
+    }
+}
+
 /// The index of the faulty point of a list, at its start or at its end.
 fn faulty_point(draws: &Draws, n: usize) -> usize {
-    if draws.count / 256 % 2 == 0 {
+    if draws.faulty_first() {
         0
     } else {
         n - 1
     }
 }
 
-fn mwh_points(draws: &Draws) -> Vec<u64> {
-    let (n, _) = counts_of(draws);
+fn mwh_points(draws: &Draws, n: usize) -> Vec<u64> {
     let mut x = draws.points;
     let mut list: Vec<u64> = (0..n)
         .map(|_| {
@@ -894,8 +1311,7 @@ fn mwh_points(draws: &Draws) -> Vec<u64> {
     list
 }
 
-fn price_points(draws: &Draws) -> Vec<i64> {
-    let (_, n) = counts_of(draws);
+fn price_points(draws: &Draws, n: usize) -> Vec<i64> {
     let mut digest = Digest(draws.points);
     digest.mix(7);
     let mut x = digest.0;
@@ -912,17 +1328,21 @@ fn price_points(draws: &Draws) -> Vec<i64> {
 }
 
 /// Whether a fault that concerns the message comes after this refusal.
-fn has_later(draws: &Draws, message: u64, number: u64) -> bool {
-    let concern: &[u64] = match message {
+fn has_later(turn: &Turn, number: u64) -> bool {
+    let concern: &[u64] = match turn.ask.message {
         OPEN | REVISE => &[2, 3, 4, 5, 8],
         WITHDRAW | PAY => &[2, 3, 4],
         POST | FINISH => &[2, 3, 4, 6, 7],
         BILL => &[2, 3, 4, 9],
+        OPEN_CURVES | REVISE_CURVES if turn.numbers.is_empty() => &[2, 3, 4, 5],
+        OPEN_CURVES | REVISE_CURVES => &[2, 3, 4, 5, 6, 7],
+        CLOSE if turn.prices.is_empty() => &[3, 4, 5],
+        CLOSE => &[3, 4, 5, 7],
         _ => &[],
     };
     concern
         .iter()
-        .any(|&fault| fault > number && draws.has(fault))
+        .any(|&fault| fault > number && turn.draws.has(fault))
 }
 
 /// A six-month number beside its three-month one.
@@ -936,13 +1356,27 @@ fn longer(three: u64, w: u64) -> u64 {
     }
 }
 
-/// Thirteen fields, eight values, six stages, four kinds.
-const CHANGES: u64 = 13 * 8 * 6 * 4;
+/// Eighteen fields, eight values, six stages, five kinds.
+const CHANGES: u64 = 18 * 8 * 6 * 5;
 const FIELD_SUPPORT: u64 = 11;
 const FIELD_TWICE: u64 = 12;
+/// The four interval sums, and the requirement again.
+const FIELD_INTERVALS: u64 = 29;
+const FIELD_REQUIREMENT: u64 = 33;
 
-/// What each field is set to, the last row being the book's support.
-const FIELD_VALUES: [[i64; 8]; 12] = [
+const INTERVAL_VALUES: [i64; 8] = [
+    0,
+    1,
+    10_000,
+    10_001,
+    639_999,
+    640_000,
+    640_001,
+    i64::MAX,
+];
+
+/// What each field is set to; a key that stands twice has none.
+const FIELD_VALUES: [[i64; 8]; 18] = [
     [0, 1, 2, 3, 4, 5, 6, i64::MAX],
     [0, 1, 2, 500, 998, 999, 1_000, i64::MAX],
     [0, 1, 77, 999_998, 999_999, 1_000_000, 1_000_001, i64::MAX],
@@ -982,24 +1416,64 @@ const FIELD_VALUES: [[i64; 8]; 12] = [
         i64::MAX,
         i64::MIN,
     ],
+    [0; 8],
+    INTERVAL_VALUES,
+    INTERVAL_VALUES,
+    INTERVAL_VALUES,
+    INTERVAL_VALUES,
+    [
+        1,
+        2,
+        -2,
+        19_999_999_999,
+        639_999_999_999,
+        999_999_999_999,
+        1_299_999_999_999,
+        -999_999_999_999,
+    ],
 ];
 
+/// The field by its row: those of the kept totals stand between.
 fn field_of(change: u64) -> u64 {
-    change / 192
+    match change / 240 {
+        field if field <= FIELD_TWICE => field,
+        field => field - 13 + FIELD_INTERVALS,
+    }
+}
+
+fn value_of(change: u64) -> i64 {
+    FIELD_VALUES[(change / 240) as usize][(change / 30 % 8) as usize]
+}
+
+/// Kind 5 at stage 1 with a requirement.
+fn gives_pending_a_requirement(change: u64) -> bool {
+    let requirement = [9, 10, FIELD_REQUIREMENT].contains(&field_of(change));
+    requirement && base_kind(change) == FOUR_CURVES && base_stage(change) == 1
+}
+
+fn base_kind(change: u64) -> u64 {
+    change % 5 + 1
+}
+
+fn base_stage(change: u64) -> u64 {
+    change / 5 % 6
 }
 
 /// A record that the change is made to; at stage 0 a free place.
 fn base_record(change: u64) -> Record {
-    match change / 4 % 6 {
+    let kind = base_kind(change);
+    let four = kind == FOUR_CURVES;
+    match base_stage(change) {
         0 => Record::FREE,
         stage => Record {
             key: Key {
-                kind: change % 4 + 1,
+                kind,
                 path: 900,
                 hour: 77,
             },
             stage,
-            bid_mwh: 100,
+            bid_mwh: if four { 0 } else { 100 },
+            intervals: if four { [100, 0, 1, 640_000] } else { [0; 4] },
             ..Record::FREE
         },
     }
@@ -1034,7 +1508,7 @@ fn changed(book: &Book, change: u64, w: u64) -> Book {
     let mut next = book.clone();
     let place = (w % PLACES as u64) as usize;
     let field = field_of(change);
-    let cents = FIELD_VALUES[(field % 12) as usize][(change / 24 % 8) as usize];
+    let cents = value_of(change);
     if field == FIELD_SUPPORT {
         next.support = cents;
         return next;
@@ -1051,7 +1525,8 @@ fn changed(book: &Book, change: u64, w: u64) -> Book {
         6 => record.exempt = whole == 1,
         7 => record.schedule = whole,
         8 => record.day_ahead_price = cents,
-        9 | 10 => record.requirement = cents,
+        9 | 10 | FIELD_REQUIREMENT => record.requirement = cents,
+        29..=32 => record.intervals[(field - FIELD_INTERVALS) as usize] = whole,
         _ => {}
     }
     put(&mut next, place, record);

@@ -4,13 +4,16 @@
 //! The last two numbers on standard input: how many groups to open, 0 to 256,
 //! and how many messages to send then. Two may stand before them: the hours
 //! and the paths between the keys of two groups; without them, or both 0, the
-//! keys are spread. And first of all may stand how often a screen asks for the
-//! totals before the messages.
+//! keys are spread. Before those may stand how often a screen asks for the
+//! totals before the messages. And first of all three: a price, and how many
+//! closes at that price and how many opens are sent to a full book of pending
+//! bids, each to the book as it was.
 
 use std::io::Read;
 
 use reference::book::{
-    Answer, Bill, Book, Finish, Key, Message, Opening, Payment, Posting, Revision, Support,
+    Answer, Bill, Book, Closing, Curves, Finish, Key, Message, Opening, Payment, Posting, Revision,
+    Support,
 };
 
 const PLACES: u64 = 256;
@@ -123,6 +126,56 @@ fn send(book: &mut Book, message: Message, turn: u64) -> Answer {
     book.apply(message, &mwh, &prices)
 }
 
+/// The hour whose bids are pending, and the support of their book.
+const HOUR: u64 = 4_000;
+const ROOM: i64 = 1_000_000_000;
+
+/// A full book of pending bids of one hour, on paths 1 to 256.
+fn pending() -> Book {
+    let (mut book, _) = Book::fresh(ROOM);
+    for path in 1..=PLACES {
+        let key = Key {
+            kind: 5,
+            path,
+            hour: HOUR,
+        };
+        let counts = [1; 4];
+        send(&mut book, Message::OpenCurves(Curves { key, counts }), path);
+    }
+    book
+}
+
+/// Closes that hour so many times, each time of the same book, at a price that
+/// is a little less from turn to turn.
+fn mix_closes(mut digest: u64, book: &Book, closes: u64, price: i64) -> u64 {
+    let paths: Vec<u64> = (1..=PLACES).collect();
+    for turn in 0..closes {
+        let prices = [(price - (turn % 1_000) as i64).max(0); 1_024];
+        let message = Message::Close(Closing { hour: HOUR });
+        let answer = book.clone().apply(message, &paths, &prices);
+        digest = mix(mix_answer(digest, &answer), answer.removed as u64);
+    }
+    digest
+}
+
+/// Opens one bid more so many times, each time of the same book, which is
+/// full.
+fn mix_opens(mut digest: u64, book: &Book, opens: u64) -> u64 {
+    for turn in 0..opens {
+        let message = Message::Open(Opening {
+            key: Key {
+                kind: 1,
+                path: 999,
+                hour: turn % 1_000,
+            },
+            differential: 1_000,
+            exempt: false,
+        });
+        digest = mix_answer(digest, &send(&mut book.clone(), message, turn));
+    }
+    digest
+}
+
 fn mix(digest: u64, value: u64) -> u64 {
     (digest * MULTIPLIER + value % MODULUS) % MODULUS
 }
@@ -164,12 +217,15 @@ fn main() {
     let open = numbers.pop().expect("a count of groups").min(PLACES);
     let mut step = || numbers.pop().unwrap_or(0);
     let (paths, hours, questions) = (step(), step(), step());
+    let (opens, closes, price) = (step(), step(), step());
     let groups = Groups { hours, paths, open };
     let (mut book, _) = Book::fresh(groups.support(0));
     for group in 0..open {
         send(&mut book, groups.opening(group, group), group);
     }
-    let mut digest = 0;
+    let pending = pending();
+    let mut digest = mix_closes(0, &pending, closes, (price % 1_000_001) as i64);
+    digest = mix_opens(digest, &pending, opens);
     for _ in 0..questions {
         digest = mix_shown(digest, &book);
     }

@@ -87,6 +87,7 @@ fn an_unsound_book_of_extreme_values_answers_1() {
                 schedule: number,
                 day_ahead_price: amount,
                 requirement: amount,
+                intervals: [number; 4],
             };
             let mut book = wide();
             book.records = [record; 256];

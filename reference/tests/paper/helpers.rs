@@ -1,12 +1,15 @@
 //! Short ways to say a message and to expect an answer.
 
-use reference::book::{Bill, Finish, Opening, Payment, Posting, Revision, Support, Withdrawal};
+use reference::book::{
+    Bill, Closing, Curves, Finish, Opening, Payment, Posting, Revision, Support, Withdrawal,
+};
 use reference::{Answer, Book, Key, Message, Record, Refusal};
 
 pub const IMPORT: u64 = 1;
 pub const EXPORT: u64 = 2;
 pub const HOUR_AHEAD_EXPORT: u64 = 3;
 pub const WHEEL: u64 = 4;
+pub const QUARTER_HOUR_EXPORT: u64 = 5;
 
 pub const MOST_SUPPORT: i64 = 1_000_000_000_000_000;
 
@@ -114,9 +117,21 @@ pub fn support(amount: i64) -> Message {
     Message::Support(Support { amount })
 }
 
-/// Each of the eight messages about a key, in range and without a second
-/// price.
-pub fn one_of_each(key: Key) -> [Message; 8] {
+pub fn open_curves(key: Key, counts: [u64; 4]) -> Message {
+    Message::OpenCurves(Curves { key, counts })
+}
+
+pub fn revise_curves(key: Key, counts: [u64; 4]) -> Message {
+    Message::ReviseCurves(Curves { key, counts })
+}
+
+pub fn close(hour: u64) -> Message {
+    Message::Close(Closing { hour })
+}
+
+/// Each of the eleven messages about a key, in range and without a second
+/// price; those of document 01 first.
+pub fn one_of_each(key: Key) -> [Message; 11] {
     [
         open(key, 0, false),
         revise(key, 0, false),
@@ -126,21 +141,34 @@ pub fn one_of_each(key: Key) -> [Message; 8] {
         bill(key, 0),
         pay(key),
         support(5),
+        open_curves(key, [1, 0, 0, 0]),
+        revise_curves(key, [1, 0, 0, 0]),
+        close(key.hour),
     ]
 }
 
 pub fn accepted(requirement: i64, held: i64, net_owed: i64) -> Answer {
     Answer {
         refusal: None,
+        removed: false,
         requirement,
         held,
         net_owed,
     }
 }
 
+/// A close whose batch is removed.
+pub fn removed(held: i64, net_owed: i64) -> Answer {
+    Answer {
+        removed: true,
+        ..accepted(0, held, net_owed)
+    }
+}
+
 pub fn refused(refusal: Refusal, held: i64, net_owed: i64) -> Answer {
     Answer {
         refusal: Some(refusal),
+        removed: false,
         requirement: 0,
         held,
         net_owed,
@@ -151,6 +179,7 @@ pub fn refused(refusal: Refusal, held: i64, net_owed: i64) -> Answer {
 pub fn take(book: &mut Book, message: Message, mwh: &[u64], prices: &[i64]) -> i64 {
     let answer = book.apply(message, mwh, prices);
     assert_eq!(answer.refusal, None, "{message:?}");
+    assert!(!answer.removed, "{message:?}");
     answer.requirement
 }
 
@@ -207,12 +236,15 @@ pub fn owe(book: &mut Book, key: Key, amount: i64) {
     send(book, bill(key, amount));
 }
 
-/// A record at each stage of its kind, put together without messages.
+/// A record at each stage of its kind, put together without messages. Kind 5
+/// has no bid MWh, and the sums of four intervals.
 pub fn staged(kind: u64, stage: u64) -> Record {
+    let four = kind == QUARTER_HOUR_EXPORT;
     Record {
         key: key(kind),
         stage,
-        bid_mwh: 10,
+        bid_mwh: if four { 0 } else { 10 },
+        intervals: if four { [10, 20, 0, 40] } else { [0; 4] },
         ..Record::FREE
     }
 }

@@ -112,11 +112,15 @@ fn after_each_message_the_kept_totals_are_the_full_walk() {
 fn a_refusal_keeps_the_totals_and_answers_them() {
     let mut book = mixed();
     for message in one_of_each(key(WHEEL)) {
-        if let Message::Open(_) | Message::Support(_) = message {
-            continue;
-        }
+        let expected = match message {
+            Message::Open(_) | Message::Support(_) => continue,
+            Message::OpenCurves(_) | Message::ReviseCurves(_) | Message::Close(_) => {
+                Refusal::Points
+            }
+            _ => Refusal::KeyNotOpen,
+        };
         let refusal = turn_away(&mut book, message, MWH, PRICES);
-        assert_eq!(refusal, Refusal::KeyNotOpen);
+        assert_eq!(refusal, expected);
         assert_eq!(kept(&book), (1_690, 700));
     }
 }

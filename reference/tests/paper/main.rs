@@ -1,6 +1,9 @@
 //! Document 01, sentence by sentence, through the public book; in `kept`
-//! order 1 of document 02, in `filed` order 2.
+//! order 1 of document 02, in `filed` order 2, in `curves` and `closes`
+//! order 3.
 
+mod closes;
+mod curves;
 mod edges;
 mod extremes;
 mod filed;

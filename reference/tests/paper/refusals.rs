@@ -14,7 +14,7 @@ fn number(message: Message, mwh: &[u64], prices: &[i64]) -> u64 {
     wide().apply(message, mwh, prices).number()
 }
 
-/// The seven messages that carry a key.
+/// The seven messages of document 01 that carry a key.
 fn keyed(key: Key) -> Vec<Message> {
     one_of_each(key)[..7].to_vec()
 }
@@ -38,8 +38,8 @@ fn refusal_1_book_not_sound() {
 }
 
 #[test]
-fn refusal_2_kind_not_1_to_4() {
-    for kind in [0, 5, 6, u64::MAX] {
+fn refusal_2_kind_not_1_to_5() {
+    for kind in [0, 6, 7, u64::MAX] {
         for message in keyed(key(kind)) {
             assert_eq!(number(message, MWH, PRICES), 2);
         }

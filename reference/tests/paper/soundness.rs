@@ -3,23 +3,26 @@
 use crate::helpers::*;
 use reference::{Book, Record, Refusal};
 
+/// Kind 5 at stage 1, which has no requirement (02, order 3).
+const PENDING: (u64, u64) = (QUARTER_HOUR_EXPORT, 1);
+
 /// A sound record of a kind at a stage, with a value in every field that may
 /// hold one.
 fn full(kind: u64, stage: u64) -> Record {
-    let from_2 = stage >= 2 && kind != HOUR_AHEAD_EXPORT;
+    let from_2 = stage >= 2 && kind != HOUR_AHEAD_EXPORT && kind != QUARTER_HOUR_EXPORT;
     Record {
         differential: if kind <= EXPORT { 60 } else { 0 },
         exempt: kind == IMPORT,
         schedule: if from_2 { 4 } else { 0 },
         day_ahead_price: if from_2 && kind == IMPORT { -3 } else { 0 },
-        requirement: 9,
+        requirement: if (kind, stage) == PENDING { 0 } else { 9 },
         ..staged(kind, stage)
     }
 }
 
 fn kinds_and_stages() -> Vec<(u64, u64)> {
     let mut all = Vec::new();
-    for kind in 1..=4 {
+    for kind in 1..=5 {
         for stage in 1..=4 {
             if (kind, stage) != (HOUR_AHEAD_EXPORT, 2) {
                 all.push((kind, stage));
@@ -33,7 +36,12 @@ fn kinds_and_stages() -> Vec<(u64, u64)> {
 #[track_caller]
 fn assert_unsound(book: Book) {
     assert!(!book.is_sound());
-    let keys = [key(IMPORT), key(HOUR_AHEAD_EXPORT), key(0)];
+    let keys = [
+        key(IMPORT),
+        key(HOUR_AHEAD_EXPORT),
+        key(QUARTER_HOUR_EXPORT),
+        key(0),
+    ];
     for message in keys.into_iter().flat_map(one_of_each) {
         let mut next = book.clone();
         let answer = next.apply(message, MWH, PRICES);
@@ -109,7 +117,7 @@ fn keys_are_distinct() {
 
 #[test]
 fn free_places_are_zero() {
-    let changes: [fn(&mut Record); 10] = [
+    let changes: [fn(&mut Record); 14] = [
         |record| record.key.path = 1,
         |record| record.key.hour = 1,
         |record| record.stage = 1,
@@ -120,6 +128,10 @@ fn free_places_are_zero() {
         |record| record.day_ahead_price = 1,
         |record| record.requirement = 1,
         |record| record.requirement = -1,
+        |record| record.intervals[0] = 1,
+        |record| record.intervals[1] = 1,
+        |record| record.intervals[2] = 1,
+        |record| record.intervals[3] = 1,
     ];
     for change in changes {
         for place in [0, 128, 255] {
@@ -141,8 +153,8 @@ fn free_places_may_lie_between_records() {
 }
 
 #[test]
-fn kinds_are_1_to_4() {
-    for number in [0, 5, u64::MAX] {
+fn kinds_are_1_to_5() {
+    for number in [0, 6, u64::MAX] {
         for (kind, stage) in kinds_and_stages() {
             breaks(kind, stage, |record| record.key.kind = number);
         }
@@ -190,10 +202,11 @@ fn stages_are_never_2_for_kind_3() {
 }
 
 #[test]
-fn bid_mwh_is_at_most_10_000_for_kinds_1_and_4_and_640_000_otherwise() {
+fn bid_mwh_is_at_most_10_000_for_kinds_1_and_4_0_for_5_and_640_000_otherwise() {
     for (kind, stage) in kinds_and_stages() {
         let most = match kind {
             IMPORT | WHEEL => 10_000,
+            QUARTER_HOUR_EXPORT => 0,
             _ => 640_000,
         };
         keeps(kind, stage, |record| record.bid_mwh = most);
@@ -204,7 +217,7 @@ fn bid_mwh_is_at_most_10_000_for_kinds_1_and_4_and_640_000_otherwise() {
 }
 
 #[test]
-fn differentials_are_in_range_and_0_for_kinds_3_and_4() {
+fn differentials_are_in_range_and_0_for_kinds_3_to_5() {
     for (kind, stage) in kinds_and_stages() {
         let most = if kind <= EXPORT { 1_000_000 } else { 0 };
         for differential in [0, most] {
@@ -230,9 +243,12 @@ fn schedule_is_at_most_bid_mwh() {
 }
 
 #[test]
-fn schedule_is_0_at_stage_1_and_for_kind_3() {
-    for kind in 1..=4 {
+fn schedule_is_0_at_stage_1_and_for_kinds_3_and_5() {
+    for kind in 1..=5 {
         breaks(kind, 1, |record| record.schedule = 1);
+    }
+    for stage in 1..=4 {
+        breaks(QUARTER_HOUR_EXPORT, stage, |record| record.schedule = 1);
     }
     for stage in [1, 3, 4] {
         breaks(HOUR_AHEAD_EXPORT, stage, |record| record.schedule = 1);
@@ -271,6 +287,7 @@ fn the_exempt_mark_stands_only_on_kind_1() {
 fn the_requirement_is_bounded_at_each_stage() {
     for (kind, stage) in kinds_and_stages() {
         let (least, most) = match (stage, kind) {
+            (1, QUARTER_HOUR_EXPORT) => (0, 0),
             (1 | 2, WHEEL) => (0, 20_000_000_000),
             (1 | 2, _) => (0, 640_000_000_000),
             (3, _) => (-1_300_000_000_000, 1_300_000_000_000),
@@ -281,6 +298,42 @@ fn the_requirement_is_bounded_at_each_stage() {
         }
         for requirement in [least - 1, most + 1, i64::MIN, i64::MAX] {
             breaks(kind, stage, |record| record.requirement = requirement);
+        }
+    }
+}
+
+#[test]
+fn interval_sums_are_at_most_640_000_and_0_for_kinds_1_to_4() {
+    for (kind, stage) in kinds_and_stages() {
+        for interval in 0..4 {
+            let set = |mwh| move |record: &mut Record| record.intervals[interval] = mwh;
+            for mwh in [0, 1, 639_999, 640_000] {
+                if kind == QUARTER_HOUR_EXPORT || mwh == 0 {
+                    keeps(kind, stage, set(mwh));
+                } else {
+                    breaks(kind, stage, set(mwh));
+                }
+            }
+            for mwh in [640_001, u64::MAX] {
+                breaks(kind, stage, set(mwh));
+            }
+        }
+    }
+    // All four may be 0: a point of 0 MWh is a point.
+    for stage in 1..=4 {
+        keeps(QUARTER_HOUR_EXPORT, stage, |record| {
+            record.intervals = [0; 4]
+        });
+    }
+}
+
+#[test]
+fn a_kind_5_record_is_no_record_of_another_kind() {
+    for (kind, stage) in kinds_and_stages() {
+        for other in (1..=5).filter(|&other| other != kind) {
+            if [kind, other].contains(&QUARTER_HOUR_EXPORT) {
+                breaks(kind, stage, |record| record.key.kind = other);
+            }
         }
     }
 }

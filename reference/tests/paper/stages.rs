@@ -46,6 +46,7 @@ fn an_import_goes_through_its_stages() {
         schedule: 50,
         day_ahead_price: 4000,
         requirement: 300_000,
+        intervals: [0; 4],
     };
     assert_eq!(book.records[0], expected);
     let answer = book.apply(finish(key, 10, 6000, 0), &[], &[]);
@@ -77,6 +78,7 @@ fn an_export_does_not_keep_its_day_ahead_price() {
         schedule: 100,
         day_ahead_price: 0,
         requirement: 500_000,
+        intervals: [0; 4],
     };
     assert_eq!(book.records[0], expected);
 }

@@ -1,7 +1,7 @@
 //! A long walk of mixed messages: what holds after every one of them.
 
 use crate::helpers::*;
-use reference::{Book, Key, Message};
+use reference::{Answer, Book, Key, Message, Record};
 
 /// A small generator of repeatable numbers.
 struct Numbers(u64);
@@ -117,4 +117,112 @@ fn every_step_keeps_the_book_sound() {
     for number in [0, 7, 8, 10, 11, 12, 13, 14, 16] {
         assert!(met[number] > 0, "refusal {number} was never met: {met:?}");
     }
+}
+
+impl Numbers {
+    /// A message of order 3, with its two lists; closes mostly list what is
+    /// pending.
+    fn of_order_3(&mut self, book: &Book) -> (Message, Vec<u64>, Vec<i64>) {
+        let key = Key {
+            kind: QUARTER_HOUR_EXPORT,
+            hour: self.below(6),
+            ..self.key()
+        };
+        let counts = [0; 4].map(|_| self.below(4));
+        let points = counts.iter().sum::<u64>() as usize;
+        let message = match self.below(12) {
+            0..=4 => open_curves(key, counts),
+            5 => revise_curves(key, counts),
+            6 => withdraw(key),
+            7 => finish(key, self.below(60), self.price(), 0),
+            8 => bill(key, self.below(40_000) as i64 - 18_000),
+            9 => pay(key),
+            10 => support(self.below(40_000) as i64),
+            _ => return self.close_of(book, key.hour),
+        };
+        let mwh = (0..points).map(|_| self.below(40)).collect();
+        let prices = (0..points).map(|_| self.price()).collect();
+        (message, mwh, prices)
+    }
+
+    fn close_of(&mut self, book: &Book, hour: u64) -> (Message, Vec<u64>, Vec<i64>) {
+        let mut paths: Vec<u64> = pending(book, hour).map(|record| record.key.path).collect();
+        match self.below(8) {
+            0 => drop(paths.pop()),
+            1 => paths.push(1 + self.below(4)),
+            2 => paths.reverse(),
+            _ => {}
+        }
+        let prices = paths.iter().flat_map(|_| [0; 4]).map(|_| self.price());
+        let prices = prices.collect();
+        (close(hour), paths, prices)
+    }
+}
+
+fn pending(book: &Book, hour: u64) -> impl Iterator<Item = &Record> {
+    book.records.iter().filter(move |record| {
+        (record.key.kind, record.key.hour, record.stage) == (QUARTER_HOUR_EXPORT, hour, 1)
+    })
+}
+
+/// What a close that is accepted leaves: no pending bid of its hour, and every
+/// other record as it was.
+fn check_close(before: &Book, hour: u64, after: &Book, answer: &Answer) {
+    assert_eq!(pending(after, hour).count(), 0);
+    for (old, new) in before.records.iter().zip(&after.records) {
+        let batched = pending(before, hour).any(|record| record == old);
+        match (batched, answer.removed) {
+            (false, _) => assert_eq!(old, new),
+            (true, true) => assert!(new.is_free()),
+            (true, false) => {
+                let closed = Record {
+                    stage: 2,
+                    requirement: new.requirement,
+                    ..*old
+                };
+                assert_eq!(*new, closed);
+            }
+        }
+    }
+    if answer.removed {
+        assert_eq!(after.held(), before.held());
+    } else {
+        assert_eq!(after.held(), before.held() + answer.requirement);
+        assert!(after.held() <= after.support);
+    }
+}
+
+#[test]
+fn every_step_of_order_3_keeps_the_book_sound() {
+    let mut numbers = Numbers(3);
+    let (mut kept, mut removed, mut met) = (0, 0, [0_u32; 19]);
+    for _ in 0..20 {
+        let mut book = fresh(50_000);
+        for _ in 0..3000 {
+            let (message, listed, prices) = numbers.of_order_3(&book);
+            let before = book.clone();
+            let answer = book.apply(message, &listed, &prices);
+            assert!(book.is_sound(), "{message:?}");
+            assert_eq!(answer.held, sum(&book, |_| true));
+            assert_eq!(answer.net_owed, sum(&book, |record| record.stage == 4));
+            met[answer.number() as usize] += 1;
+            match (message, answer.number()) {
+                (Message::Close(closing), 0) => {
+                    check_close(&before, closing.hour, &book, &answer);
+                    removed += u32::from(answer.removed);
+                    kept += u32::from(!answer.removed);
+                }
+                (_, 0) => assert!(!answer.removed),
+                _ => assert_eq!(before, book, "{message:?}"),
+            }
+        }
+    }
+    assert!(
+        kept > 100 && removed > 100,
+        "{kept} kept, {removed} removed"
+    );
+    for number in [0, 5, 10, 11, 12, 14] {
+        assert!(met[number] > 0, "refusal {number} was never met: {met:?}");
+    }
+    assert_eq!(met[16], 0);
 }
