@@ -185,7 +185,7 @@ impl Record {
             return false;
         }
         // `keeps_row_of(kind)`, arm by arm: with a row that it knows the compiler drops the tests that the row decides, and a message to a full book
-        // takes 39,595 instructions, and not 59,554 (docs/SPEED.md).
+        // takes 39,595 instructions, and not 56,929 (docs/SPEED.md).
         let kind = self.key.kind;
         match kind {
             Kind::IMPORT => self.keeps_row_of(Kind::IMPORT),
