@@ -1,6 +1,6 @@
 -- How large the amounts of the stages are, and what an entry answers by its rows.
 -- Assumes nothing.
-use mathlib.Core.Path.{_≡_, refl, ap, subst}
+use mathlib.Core.Path.{_≡_, refl, sym, ap, subst, _∙_}
 use mathlib.Core.Bool.{Bool, true, false}
 use mathlib.Core.List.{List, _∷_}
 use mathlib.Core.Logic.{_⊎_, inl, inr, ⊎-elim}
@@ -11,7 +11,7 @@ use lib.Dec.{ltb}
 use lib.IntN.{ℤ, pos, negℤ, _+ℤ_, _-ℤ_, _*ℤ_}
 use Rattle.amounts.specs.Amount.{up, down, Max, Range, inRange}
 use Rattle.amounts.specs.Limits.{isPointMwh, isQuantity, isPrice, isDifferential, isPending, isFinished}
-use Rattle.amounts.proofs.Signed.{sum-of, difference-of, larger-of, times-of, mul-mono, max-gap, tested, range-true, range-wider, range-add, range-sub, range-max, range-times, range-mul}
+use Rattle.amounts.proofs.Signed.{signed, up-neg, down-neg, sub-flip, neg-mul, sum-of, difference-of, larger-of, times-of, mul-mono, max-gap, tested, range-true, range-wider, range-add, range-sub, range-max, range-times, range-mul}
 use Rattle.refusals.specs.Refusals.{Row, first, None, judge}
 use Rattle.refusals.specs.declared.Figure.the-variants.{Cents, Refused}
 use Rattle.refusals.specs.Figures.{figure}
@@ -59,6 +59,21 @@ pub export-finished-range : (posted : ℤ) (s a : ℕ) (p : ℤ) → isPending p
 unfolding exportFinished
 export-finished-range posted s a p hr hs ha hp =
     range-add (range-sub (range-true 0 640000000000 posted hr) (balancing-range s a p hs ha hp)) (balancing-range a s p ha hs hp)
+
+-- 02, order 4: 'They come to one subtraction: posted amount less (schedule - actual) x real-time price'
+floors : (r x : ℤ) → r -ℤ Max x (pos 0) +ℤ Max (negℤ x) (pos 0) ≡ r -ℤ x
+floors r x = omega (arith, signed, sum-of (r -ℤ Max x (pos 0)) (Max (negℤ x) (pos 0)), difference-of r (Max x (pos 0)), difference-of r x, larger-of x (pos 0), larger-of (negℤ x) (pos 0), up-neg x, down-neg x)
+
+pub one-product : (posted : ℤ) (s a : ℕ) (p : ℤ) → exportFinished posted s a p ≡ posted -ℤ (pos s -ℤ pos a) *ℤ p
+unfolding exportFinished balancing
+one-product posted s a p =
+    let x = (pos s -ℤ pos a) *ℤ p in
+    ap (λ (y : ℤ). posted -ℤ Max x (pos 0) +ℤ Max y (pos 0)) (ap (λ (z : ℤ). z *ℤ p) (sym (sub-flip (pos s) (pos a))) ∙ neg-mul (pos s -ℤ pos a) p) ∙ floors posted x
+
+-- a wheel's finish does not: its second half is floored twice, so 7 MWh on a schedule of 5, at a difference of -3, leave 10 at 10, where the one product makes it 4
+pub not-of-a-wheel : (wheelFinished (pos 10) 5 7 (pos 0) (pos 3) ≡ pos 10) × (pos 10 -ℤ (pos 5 -ℤ pos 7) *ℤ (pos 0 -ℤ pos 3) ≡ pos 4)
+unfolding wheelFinished
+not-of-a-wheel = (refl, refl)
 
 pub hour-ahead-finished-range : (a : ℕ) (p : ℤ) → isQuantity a ≡ true → isPrice p ≡ true → Range 0 640000000000 (hourAheadFinished a p)
 unfolding hourAheadFinished

@@ -6,7 +6,7 @@ ghost use Rattle.amounts.specs.Amount.{Max};
 ghost use Rattle.amounts.specs.Limits.{isQuantity, isPrice, isDifferential, isPending};
 ghost use Rattle.refusals.specs.Refusals.{None};
 ghost use Rattle.refusals.specs.Figures.{figure};
-ghost use Rattle.formulas.specs.Stages.{importPosted, balancing, importFinished, exportPosted, exportFinished, hourAheadFinished, wheelPosted, wheelFinished, postedRequirement, finishedRequirement};
+ghost use Rattle.formulas.specs.Stages.{importPosted, importFinished, exportPosted, exportFinished, hourAheadFinished, wheelPosted, wheelFinished, postedRequirement, finishedRequirement};
 ghost use Rattle.deliveries.specs.Rows.{postedRows, finishedRows};
 ghost use Rattle.formulas.specs.Entries.{postedVerdict, finishedVerdict, billedVerdict};
 use deliveries::bill_refusal;
@@ -24,16 +24,6 @@ fn import_posted(schedule: u64, differential: u64) -> i64
     ensures { λ r. ⌜ r ≡ importPosted schedule differential ⌝ }
 {
     (schedule * differential) as i64
-}
-
-// What an export is short of its schedule, at the real-time price; what it adds above it, with the two quantities changed about.
-fn balance(schedule: u64, actual: u64, real_time: i64) -> i64
-    requires { ⌜ isQuantity schedule ≡ true ⌝ }
-    requires { ⌜ isQuantity actual ≡ true ⌝ }
-    requires { ⌜ isPrice «real_time» ≡ true ⌝ }
-    ensures { λ r. ⌜ r ≡ balancing schedule actual «real_time» ⌝ }
-{
-    amounts::floored((schedule as i64 - actual as i64) * real_time)
 }
 
 fn import_finished(schedule: u64, day_ahead: i64, actual: u64, real_time: i64) -> i64
@@ -65,7 +55,8 @@ fn export_finished(posted_cents: i64, schedule: u64, actual: u64, real_time: i64
     requires { ⌜ isPrice «real_time» ≡ true ⌝ }
     ensures { λ r. ⌜ r ≡ exportFinished «posted_cents» schedule actual «real_time» ⌝ }
 {
-    posted_cents - balance(schedule, actual, real_time) + balance(actual, schedule, real_time)
+    // 02, order 4: the two floored halves come to one product.
+    posted_cents - (schedule as i64 - actual as i64) * real_time
 }
 
 fn hour_ahead_finished(actual: u64, real_time: i64) -> i64

@@ -1,47 +1,41 @@
--- `formulas::stages::export_finished`: the posted amount and the two balancing amounts are in range, so each step fits.
-use mathlib.Core.Path.{ap, _∙_}
-use mir.Facts.{toZ-ofZ}
-use Rattle.amounts.proofs.Steps.{Known, fits, kept, known, _plus_, _minus_}
-use Rattle.formulas.specs.Stages.{balancing, exportFinished}
-use Rattle.formulas.proofs.Given.{pending, handed-price}
-use Rattle.formulas.proofs.StageLaws.{balancing-range}
+-- `formulas::stages::export_finished`: one product for the two floored halves, by `one-product`; the posted amount and the product are in range, so each step fits.
+use lib.IntN.{pos, _-ℤ_, _*ℤ_}
+use mathlib.Core.Path.{sym, _∙_}
+use mir.Syntax.{w64}
+use mir.Val.{toZ, ofZ}
+use Rattle.amounts.proofs.Steps.{Known, fits, kept, _minus_, _times_}
+use Rattle.formulas.proofs.Given.{mwh, mwh-cast, price, pending}
+use Rattle.formulas.proofs.StageLaws.{one-product}
 use Rattle.formulas.proofs.stages.export_finished.Statement.{statement}
 use Rattle.formulas.proofs.stages.export_finished.Tie as tie
 
-balance-requires : tie.Need-balance-requires
-balance-requires c κs = (search, (search, search handed-price))
+cast-result : tie.Need-cast-result
+cast-result c = mwh-cast (c .args .schedule) (c .pre .1 .0)
 
-less : (c : tie.After-balance) → Known (c .balance .result) (balancing (c .before .args .schedule) (c .before .args .actual) (c .before .args .real-time)) 0 640000000000
-less c =
-    let s = c .before in
-    let a = s .args in
-    known (c .balance .ensures ∙ ap (balancing (a .schedule) (a .actual)) (toZ-ofZ (s .fits .real-time)))
-    (balancing-range (a .schedule) (a .actual) (a .real-time) (s .pre .1 .0) (s .pre .1 .1 .0) (s .pre .1 .1 .1))
+cast-result-2 : tie.Need-cast-result-2
+cast-result-2 c = mwh-cast (c .args .actual) (c .pre .1 .1 .0)
 
-more : (c : tie.After-balance2) → Known (c .balance2 .result) (balancing (c .before .before .args .actual) (c .before .before .args .schedule) (c .before .before .args .real-time)) 0 640000000000
-more c =
-    let s = c .before .before in
-    let a = s .args in
-    known (c .balance2 .ensures ∙ ap (balancing (a .actual) (a .schedule)) (toZ-ofZ (s .fits .real-time)))
-    (balancing-range (a .actual) (a .schedule) (a .real-time) (s .pre .1 .1 .0) (s .pre .1 .0) (s .pre .1 .1 .1))
+gap : (s : tie.Start) → Known (toZ w64 (s .args .schedule) -ℤ toZ w64 (s .args .actual)) (pos (s .args .schedule) -ℤ pos (s .args .actual)) 640000 640000
+gap s = mwh (s .args .schedule) (s .pre .1 .0) minus mwh (s .args .actual) (s .pre .1 .1 .0)
+
+product : (s : tie.Start) → Known (toZ w64 (ofZ w64 (toZ w64 (s .args .schedule) -ℤ toZ w64 (s .args .actual))) *ℤ toZ w64 (ofZ w64 (s .args .real-time))) ((pos (s .args .schedule) -ℤ pos (s .args .actual)) *ℤ s .args .real-time) 640000000000 640000000000
+product s = kept (gap s) tt times price (s .fits .real-time) (s .pre .1 .1 .1)
 
 sub-result : tie.Need-sub-result
-sub-result c = fits (pending (c .before .fits .posted-cents) (c .before .pre .0) minus kept (less c) tt) tt
+sub-result c = fits (gap c) tt
 
-balance-requires-2 : tie.Need-balance-requires-2
-balance-requires-2 c κs = (search, (search, search handed-price))
+mul-result : tie.Need-mul-result
+mul-result c = fits (product c) tt
 
-add-result : tie.Need-add-result
-add-result c =
-    let s = c .before .before in
-    fits (kept (pending (s .fits .posted-cents) (s .pre .0) minus kept (less (c .before)) tt) tt plus kept (more c) tt) tt
+sub-result-2 : tie.Need-sub-result-2
+sub-result-2 c = fits (pending (c .fits .posted-cents) (c .pre .0) minus kept (product c) tt) tt
 
 returns : tie.Need-returns
-unfolding exportFinished
 returns c =
-    let s = c .before .before in
-    kept (kept (pending (s .fits .posted-cents) (s .pre .0) minus kept (less (c .before)) tt) tt plus kept (more c) tt) tt .is
+    let a = c .args in
+    kept (pending (c .fits .posted-cents) (c .pre .0) minus kept (product c) tt) tt .is
+    ∙ sym (one-product (a .posted-cents) (a .schedule) (a .actual) (a .real-time))
 
 pub export-finished-spec : {M : Type 1} → statement M
 export-finished-spec =
-    tie.close (tie.spec balance-requires sub-result balance-requires-2 add-result returns)
+    tie.close (tie.spec cast-result cast-result-2 sub-result mul-result sub-result-2 returns)
