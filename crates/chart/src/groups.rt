@@ -1,18 +1,19 @@
-// The group of an hour is its season's first group and its period's place in the season.
+// The season of a month and the period of an hour, by which the older edition numbers its groups.
 
 use crate::Time;
 ghost use mathlib.Core.Path.{_≡_};
 ghost use Prim.Native.Nat.{_≤_};
-ghost use Rattle.chart.specs.Groups.{firstGroup, periodOf};
+ghost use Rattle.chart.specs.Groups.{seasonOf, periodOf};
 
-pub(crate) fn first_group(month: u64) -> u64
+// 0 is summer, 1 winter, 2 the rest of the year.
+pub(crate) fn season(month: u64) -> u64
     requires { ⌜ month ≤ 12 ⌝ }
-    ensures { λ r. ⌜ r ≡ firstGroup month ⌝ }
+    ensures { λ r. ⌜ r ≡ seasonOf month ⌝ }
 {
     match month {
-        5..=8 => 1,
-        12 | 1..=2 => 7,
-        _ => 13,
+        5..=8 => 0,
+        12 | 1..=2 => 1,
+        _ => 2,
     }
 }
 

@@ -1,19 +1,26 @@
-// The differential chart of document 01: the group of an hour and the differential that is published for it at a bus.
+// The differential chart of document 01, in the two editions of 02, order 5: the group of an hour, and in the older edition the differential that is published for it
+// at a bus.
 
 mod differentials;
 mod groups;
+mod newer;
 
 ghost use mathlib.Core.Path.{_≡_};
 ghost use mathlib.Core.Bool.{true};
 ghost use Prim.Native.Nat.{_≤_};
 ghost use Rattle.chart.specs.Published.{differentialOf, startOf};
-ghost use Rattle.chart.specs.Groups.{eighteen, groupIn, timeInRange};
-ghost use Rattle.chart.specs.Lookup.{busInRange, lookupOf, numberOf, groupOf, centsOf};
+ghost use Rattle.chart.specs.Groups.{eighteen, thirtyThree, groupIn, timeInRange};
+ghost use Rattle.chart.specs.Lookup.{busInRange, inEdition, answerIn, lookupOf, numberOf, groupOf, centsOf};
 
 // Virtual supply for imports, virtual load for exports.
 pub enum Table {
     Import,
     Export,
+}
+
+// An edition of the chart, named by its number.
+pub struct Edition {
+    pub number: u64,
 }
 
 // An hour of the chart: the month, the type of day, and when on the clock it begins.
@@ -25,7 +32,15 @@ pub struct Time {
 
 pub enum Answer {
     At { group: u64, cents: u64 },
+    // The newer edition has no differentials.
+    GroupOnly { group: u64 },
     Refused,
+}
+
+impl Edition {
+    pub const OF_18_GROUPS: u64 = 1;
+
+    pub const OF_33_GROUPS: u64 = 2;
 }
 
 impl Table {
@@ -36,6 +51,17 @@ impl Table {
     pub const GROUPS: u64 = 18;
 
     const EXPORT_START: u64 = 180;
+
+    // Exports have the older edition alone.
+    fn in_edition(self, edition: u64) -> bool
+        ensures { λ r. ⌜ r ≡ inEdition edition self ⌝ }
+    {
+        match self {
+            Table::Import => (edition == Edition::OF_18_GROUPS)
+                | (edition == Edition::OF_33_GROUPS),
+            Table::Export => edition == Edition::OF_18_GROUPS,
+        }
+    }
 
     fn has_bus(bus: u64) -> bool
         ensures { λ r. ⌜ r ≡ busInRange bus ⌝ }
@@ -74,6 +100,9 @@ impl Time {
 
     pub const LAST_HOUR: u64 = 23;
 
+    // The older edition's groups of a season.
+    const PERIODS: u64 = 6;
+
     fn in_range(self) -> bool
         ensures { λ r. ⌜ r ≡ timeInRange (self .month) (self .day) (self .hour) ⌝ }
     {
@@ -87,7 +116,14 @@ impl Time {
         requires { ⌜ timeInRange (self .month) (self .day) (self .hour) ≡ true ⌝ }
         ensures { λ r. ⌜ r ≡ groupIn eighteen (self .month) (self .day) (self .hour) ⌝ }
     {
-        groups::first_group(self.month) + groups::period(self.day, self.hour)
+        groups::season(self.month) * Time::PERIODS + groups::period(self.day, self.hour) + 1
+    }
+
+    fn newer_group(self) -> u64
+        requires { ⌜ timeInRange (self .month) (self .day) (self .hour) ≡ true ⌝ }
+        ensures { λ r. ⌜ r ≡ groupIn thirtyThree (self .month) (self .day) (self .hour) ⌝ }
+    {
+        newer::group(groups::season(self.month), self.day, self.hour)
     }
 }
 
@@ -100,6 +136,7 @@ impl Answer {
     {
         match self {
             Answer::At { group: _, cents: _ } => 0,
+            Answer::GroupOnly { group: _ } => 0,
             Answer::Refused => Answer::REFUSAL,
         }
     }
@@ -109,30 +146,50 @@ impl Answer {
     {
         match self {
             Answer::At { group, cents: _ } => group,
+            Answer::GroupOnly { group } => group,
             Answer::Refused => 0,
         }
     }
 
+    // 0 where there is no differential: in the newer edition, and in a refusal.
     pub fn cents(self) -> u64
         ensures { λ r. ⌜ r ≡ centsOf self ⌝ }
     {
         match self {
             Answer::At { group: _, cents } => cents,
+            Answer::GroupOnly { group: _ } => 0,
             Answer::Refused => 0,
         }
     }
 }
 
-pub fn lookup(table: Table, bus: u64, month: u64, day: u64, hour: u64) -> Answer
-    ensures { λ r. ⌜ r ≡ lookupOf table bus month day hour ⌝ }
+// What is answered where nothing is out of range.
+fn answered(edition: u64, table: Table, bus: u64, time: Time) -> Answer
+    requires { ⌜ busInRange bus ≡ true ⌝ }
+    requires { ⌜ timeInRange (time .month) (time .day) (time .hour) ≡ true ⌝ }
+    ensures { λ r. ⌜ r ≡ answerIn edition table bus (time .month) (time .day) (time .hour) ⌝ }
+{
+    match edition {
+        Edition::OF_18_GROUPS => {
+            let group = time.group();
+            Answer::At {
+                group,
+                cents: table.differential(bus, group),
+            }
+        }
+        _ => Answer::GroupOnly {
+            group: time.newer_group(),
+        },
+    }
+}
+
+// 02, order 5: the edition is the caller's, 1 or 2 (`Edition`).
+pub fn lookup(edition: u64, table: Table, bus: u64, month: u64, day: u64, hour: u64) -> Answer
+    ensures { λ r. ⌜ r ≡ lookupOf edition table bus month day hour ⌝ }
 {
     let time = Time { month, day, hour };
-    if Table::has_bus(bus) & time.in_range() {
-        let group = time.group();
-        Answer::At {
-            group,
-            cents: table.differential(bus, group),
-        }
+    if table.in_edition(edition) & Table::has_bus(bus) & time.in_range() {
+        answered(edition, table, bus, time)
     } else {
         Answer::Refused
     }

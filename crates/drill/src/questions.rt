@@ -3,12 +3,14 @@ use crate::digest::mix;
 use crate::generator;
 use crate::generator::draw;
 use crate::rows::Counts;
+use crate::rows::EDITIONS;
 use crate::rows::LOOKS;
 use crate::rows::TESTS;
 use crate::rows::count;
 use crate::values;
 use crate::values::one_of;
 use chart::Answer;
+use chart::Edition;
 use chart::Table;
 use history::History;
 use history::Window;
@@ -60,10 +62,43 @@ fn table(w: u64) -> Table {
     }
 }
 
-fn looked(seed: u64) -> Answer {
+// A lookup that is asked: whether it is of the newer edition and of the import table, whether bus and time are in range, and what is answered.
+struct Look {
+    newer: bool,
+    import: bool,
+    inside: bool,
+    answer: Answer,
+}
+
+fn looked(seed: u64) -> Look {
     let w = draw(seed, generator::LOOK);
-    let day = draw(seed, generator::DAY);
-    chart::lookup(table(w), w / 2 % 12, w / 24 % 14, day % 3, day / 3 % 25)
+    let drawn = draw(seed, generator::DAY);
+    let edition = one_of(values::EDITIONS, drawn / 75);
+    let bus = w / 2 % 12;
+    let month = w / 24 % 14;
+    let day = drawn % 3;
+    let hour = drawn / 3 % 25;
+    let answer = chart::lookup(edition, table(w), bus, month, day, hour);
+    Look {
+        newer: edition == Edition::OF_33_GROUPS,
+        import: w % 2 == 0,
+        inside: (0 < bus) & (bus < 11) & (0 < month) & (month < 13) & (day < 2) & (hour < 24),
+        answer,
+    }
+}
+
+impl Look {
+    fn answered_row(self) -> u64 {
+        let older = pick(self.import, EDITIONS, EDITIONS + 1);
+        pick(self.newer, EDITIONS + 2, older)
+    }
+
+    // 0 where it is none: of an older edition that is out of range, and of no edition that is so too.
+    fn refused_row(self) -> u64 {
+        let alone = pick(self.newer, EDITIONS + 4, EDITIONS + 3);
+        let ranges = pick(self.newer & self.import, EDITIONS + 5, 0);
+        pick(self.inside, alone, ranges)
+    }
 }
 
 // Both are counted, and the digest goes on with their answers.
@@ -71,13 +106,18 @@ pub(crate) fn answered(seed: u64, digest: u64, counts: &mut Counts) -> u64 {
     let test = history(seed).import_test();
     let refused = test.number();
     let exempt = test.exempt();
-    let look = looked(seed);
+    let asked = looked(seed);
+    let look = asked.answer;
     let number = look.number();
     count(
         counts,
         pick(refused == 0, TESTS + 1 - exempt % 2, TESTS + 2),
     );
     count(counts, pick(number == 0, LOOKS, LOOKS + 1));
+    count(
+        counts,
+        pick(number == 0, asked.answered_row(), asked.refused_row()),
+    );
     let tested = mix(mix(digest, refused), exempt);
     mix(mix(mix(tested, number), look.group()), look.cents())
 }

@@ -71,6 +71,10 @@ const WRONG_STAGE: u64 = 1_000;
 
 const STAGES: u64 = 8;
 
+// The lookup by edition: answered in the older one, import and export, and in the newer; refused for the edition alone, for an export in the newer alone, and for an
+// import in the newer that is out of range.
+pub(crate) const EDITIONS: u64 = 1_008;
+
 // The first message of 02, order 3.
 const FIRST_OF_ORDER_3: u64 = 9;
 

@@ -73,6 +73,8 @@ pub(crate) const TEST_MWH: [u64; 8] = [0, 1, 99, 100, 101, 400, 1_000_000_000, 1
 
 pub(crate) const TEST_LOSS: [u64; 8] = [0, 1, 24, 25, 26, 100, 1_000_000_000, 1_000_000_001];
 
+pub(crate) const EDITIONS: [u64; 8] = [1, 2, 1, 2, 1, 2, 0, 3];
+
 // Signed cents.
 pub(crate) const PRICES: [i64; 8] = [0, 1, -1, 4_000, 6_000, 999_999, 1_000_000, -1_000_000];
 

@@ -1,6 +1,8 @@
-// Prints the answers of the chart and of the import test at document 01's edges, one a line: a label, the refusal's number or 0, then the values,
-// which are group and cents for the chart and 1 or 0 for exempt or not.
+// Prints the answers of the chart and of the import test at document 01's edges and in both editions of 02, order 5, one a line: a label, the refusal's number
+// or 0, then the values, which are group and cents for the chart, in the newer edition the group alone, and 1 or 0 for exempt or not.
 
+use chart::Answer;
+use chart::Edition;
 use chart::Table;
 use history::History;
 use history::Window;
@@ -17,6 +19,14 @@ fn main() {
     months();
     day_types();
     hours();
+    newer_chart();
+    newer_seasons();
+    newer_buses();
+    newer_months();
+    newer_day_types();
+    newer_hours();
+    exports();
+    editions();
     shares();
     windows();
     most_in_three();
@@ -40,8 +50,20 @@ fn print_table(table: Table) {
     }
 }
 
-fn look(table: Table, bus: u64, month: u64, day: u64, hour: u64) {
-    let answer = chart::lookup(table, bus, month, day, hour);
+fn print_cents(answer: Answer) {
+    match answer {
+        Answer::GroupOnly { group: _ } => print(b"\n"),
+        _ => {
+            print_after(b" ", answer.cents());
+            print(b"\n");
+        }
+    }
+}
+
+fn look(edition: u64, table: Table, bus: u64, month: u64, day: u64, hour: u64) {
+    let answer = chart::lookup(edition, table, bus, month, day, hour);
+    print_after(b"edition ", edition);
+    print(b" ");
     print_table(table);
     print_after(b" bus ", bus);
     print_after(b" month ", month);
@@ -49,8 +71,15 @@ fn look(table: Table, bus: u64, month: u64, day: u64, hour: u64) {
     print_after(b" hour ", hour);
     print_after(b": ", answer.number());
     print_after(b" ", answer.group());
-    print_after(b" ", answer.cents());
-    print(b"\n");
+    print_cents(answer);
+}
+
+fn older(table: Table, bus: u64, month: u64, day: u64, hour: u64) {
+    look(Edition::OF_18_GROUPS, table, bus, month, day, hour);
+}
+
+fn newer(bus: u64, month: u64, day: u64, hour: u64) {
+    look(Edition::OF_33_GROUPS, Table::Import, bus, month, day, hour);
 }
 
 fn print_window(window: Window) {
@@ -84,81 +113,159 @@ fn test(bids3: u64, mwh3: u64, loss3: u64, bids6: u64, mwh6: u64, loss6: u64) {
 
 // Both ends of each period of a July weekday: hour 22 is group 4, hour 23 group 6.
 fn weekdays() {
-    look(Table::Import, 1, 7, 0, 0);
-    look(Table::Import, 1, 7, 0, 6);
-    look(Table::Import, 1, 7, 0, 7);
-    look(Table::Import, 1, 7, 0, 10);
-    look(Table::Import, 1, 7, 0, 11);
-    look(Table::Import, 1, 7, 0, 14);
-    look(Table::Import, 1, 7, 0, 15);
-    look(Table::Import, 1, 7, 0, 18);
-    look(Table::Import, 1, 7, 0, 19);
-    look(Table::Import, 1, 7, 0, 22);
-    look(Table::Import, 1, 7, 0, 23);
+    older(Table::Import, 1, 7, 0, 0);
+    older(Table::Import, 1, 7, 0, 6);
+    older(Table::Import, 1, 7, 0, 7);
+    older(Table::Import, 1, 7, 0, 10);
+    older(Table::Import, 1, 7, 0, 11);
+    older(Table::Import, 1, 7, 0, 14);
+    older(Table::Import, 1, 7, 0, 15);
+    older(Table::Import, 1, 7, 0, 18);
+    older(Table::Import, 1, 7, 0, 19);
+    older(Table::Import, 1, 7, 0, 22);
+    older(Table::Import, 1, 7, 0, 23);
 }
 
 // Both ends of a July weekend, then a holiday in each other season.
 fn weekends() {
-    look(Table::Import, 1, 7, 1, 6);
-    look(Table::Import, 1, 7, 1, 7);
-    look(Table::Import, 1, 7, 1, 22);
-    look(Table::Import, 1, 7, 1, 23);
-    look(Table::Import, 1, 1, 1, 12);
-    look(Table::Import, 1, 10, 1, 12);
+    older(Table::Import, 1, 7, 1, 6);
+    older(Table::Import, 1, 7, 1, 7);
+    older(Table::Import, 1, 7, 1, 22);
+    older(Table::Import, 1, 7, 1, 23);
+    older(Table::Import, 1, 1, 1, 12);
+    older(Table::Import, 1, 10, 1, 12);
 }
 
 // The first and the last month of each season, from April on.
 fn seasons() {
-    look(Table::Export, 2, 4, 0, 7);
-    look(Table::Export, 2, 5, 0, 7);
-    look(Table::Export, 2, 8, 0, 7);
-    look(Table::Export, 2, 9, 0, 7);
-    look(Table::Export, 2, 11, 0, 7);
-    look(Table::Export, 2, 12, 0, 7);
-    look(Table::Export, 2, 1, 0, 7);
-    look(Table::Export, 2, 2, 0, 7);
-    look(Table::Export, 2, 3, 0, 7);
+    older(Table::Export, 2, 4, 0, 7);
+    older(Table::Export, 2, 5, 0, 7);
+    older(Table::Export, 2, 8, 0, 7);
+    older(Table::Export, 2, 9, 0, 7);
+    older(Table::Export, 2, 11, 0, 7);
+    older(Table::Export, 2, 12, 0, 7);
+    older(Table::Export, 2, 1, 0, 7);
+    older(Table::Export, 2, 2, 0, 7);
+    older(Table::Export, 2, 3, 0, 7);
 }
 
 // The least and the largest differential, then the first and the last of each table.
 fn differentials() {
-    look(Table::Import, 4, 1, 0, 11);
-    look(Table::Import, 9, 7, 0, 15);
-    look(Table::Import, 1, 5, 0, 7);
-    look(Table::Import, 10, 11, 0, 23);
-    look(Table::Export, 1, 5, 0, 7);
-    look(Table::Export, 10, 11, 0, 23);
+    older(Table::Import, 4, 1, 0, 11);
+    older(Table::Import, 9, 7, 0, 15);
+    older(Table::Import, 1, 5, 0, 7);
+    older(Table::Import, 10, 11, 0, 23);
+    older(Table::Export, 1, 5, 0, 7);
+    older(Table::Export, 10, 11, 0, 23);
 }
 
 // Each input at its limits and past them.
 fn buses() {
-    look(Table::Import, 0, 7, 0, 7);
-    look(Table::Import, 1, 7, 0, 7);
-    look(Table::Import, 10, 7, 0, 7);
-    look(Table::Import, 11, 7, 0, 7);
-    look(Table::Import, U64_MAX, 7, 0, 7);
+    older(Table::Import, 0, 7, 0, 7);
+    older(Table::Import, 1, 7, 0, 7);
+    older(Table::Import, 10, 7, 0, 7);
+    older(Table::Import, 11, 7, 0, 7);
+    older(Table::Import, U64_MAX, 7, 0, 7);
 }
 
 fn months() {
-    look(Table::Import, 1, 0, 0, 7);
-    look(Table::Import, 1, 1, 0, 7);
-    look(Table::Import, 1, 12, 0, 7);
-    look(Table::Import, 1, 13, 0, 7);
-    look(Table::Import, 1, U64_MAX, 0, 7);
+    older(Table::Import, 1, 0, 0, 7);
+    older(Table::Import, 1, 1, 0, 7);
+    older(Table::Import, 1, 12, 0, 7);
+    older(Table::Import, 1, 13, 0, 7);
+    older(Table::Import, 1, U64_MAX, 0, 7);
 }
 
 fn day_types() {
-    look(Table::Export, 1, 7, 0, 7);
-    look(Table::Export, 1, 7, 1, 7);
-    look(Table::Export, 1, 7, 2, 7);
-    look(Table::Export, 1, 7, U64_MAX, 7);
+    older(Table::Export, 1, 7, 0, 7);
+    older(Table::Export, 1, 7, 1, 7);
+    older(Table::Export, 1, 7, 2, 7);
+    older(Table::Export, 1, 7, U64_MAX, 7);
 }
 
 fn hours() {
-    look(Table::Export, 1, 7, 0, 0);
-    look(Table::Export, 1, 7, 0, 23);
-    look(Table::Export, 1, 7, 0, 24);
-    look(Table::Export, 1, 7, 0, U64_MAX);
+    older(Table::Export, 1, 7, 0, 0);
+    older(Table::Export, 1, 7, 0, 23);
+    older(Table::Export, 1, 7, 0, 24);
+    older(Table::Export, 1, 7, 0, U64_MAX);
+}
+
+// The newer edition whole, a month for each season.
+fn newer_chart() {
+    newer_month(7);
+    newer_month(1);
+    newer_month(10);
+}
+
+fn newer_month(month: u64) {
+    newer_day(month, 0);
+    newer_day(month, 1);
+}
+
+fn newer_day(month: u64, day: u64) {
+    let mut hour: u64 = 0;
+    while hour < 24 {
+        newer(1, month, day, hour);
+        hour = hour + 1;
+    }
+}
+
+// Hour 7 is night in winter alone.
+fn newer_seasons() {
+    newer(2, 4, 0, 7);
+    newer(2, 5, 0, 7);
+    newer(2, 8, 0, 7);
+    newer(2, 9, 0, 7);
+    newer(2, 11, 0, 7);
+    newer(2, 12, 0, 7);
+    newer(2, 1, 0, 7);
+    newer(2, 2, 0, 7);
+    newer(2, 3, 0, 7);
+}
+
+// Each input at its limits and past them, in the newer edition.
+fn newer_buses() {
+    newer(0, 7, 0, 18);
+    newer(1, 7, 0, 18);
+    newer(10, 7, 0, 18);
+    newer(11, 7, 0, 18);
+    newer(U64_MAX, 7, 0, 18);
+}
+
+fn newer_months() {
+    newer(1, 0, 0, 18);
+    newer(1, 12, 0, 18);
+    newer(1, 13, 0, 18);
+    newer(1, U64_MAX, 0, 18);
+}
+
+fn newer_day_types() {
+    newer(1, 7, 1, 18);
+    newer(1, 7, 2, 18);
+    newer(1, 7, U64_MAX, 18);
+}
+
+fn newer_hours() {
+    newer(1, 7, 0, 0);
+    newer(1, 7, 0, 23);
+    newer(1, 7, 0, 24);
+    newer(1, 7, 0, U64_MAX);
+}
+
+// Exports have the older edition alone.
+fn exports() {
+    look(Edition::OF_18_GROUPS, Table::Export, 1, 7, 0, 18);
+    look(Edition::OF_33_GROUPS, Table::Export, 1, 7, 0, 18);
+}
+
+fn editions() {
+    look(0, Table::Import, 1, 7, 0, 18);
+    look(1, Table::Import, 1, 7, 0, 18);
+    look(2, Table::Import, 1, 7, 0, 18);
+    look(3, Table::Import, 1, 7, 0, 18);
+    look(U64_MAX, Table::Import, 1, 7, 0, 18);
+    look(0, Table::Export, 1, 7, 0, 18);
+    look(3, Table::Export, 1, 7, 0, 18);
 }
 
 // 24 and 25 MWh lost of 100; 25 of 101; and windows with no loss, no MWh, no bids.

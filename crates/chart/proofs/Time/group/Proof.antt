@@ -1,11 +1,11 @@
--- `chart::Time::group` meets its contract: the season's first group and the period add up to the group of the chart.
+-- `chart::Time::group` meets its contract: six groups a season, in the order of the periods, are the groups of the chart.
 use mathlib.Core.Path.{_≡_, _∙_}
-use Prim.Native.Nat.{ℕ, _+_}
+use Prim.Native.Nat.{ℕ, _+_, _*_}
 use native.Mathlib.Omega.{arith}
 use Rattle.chart.specs.declared.Time.{Time}
 use Rattle.chart.specs.Groups.{eighteen, groupIn}
 use Rattle.chart.proofs.Parted.{Within, within}
-use Rattle.chart.proofs.Eighteen.{eighteen-parted, agree}
+use Rattle.chart.proofs.Eighteen.{eighteen-parted, agree, season-last}
 use Rattle.chart.proofs.Time.group.Statement.{statement}
 use Rattle.chart.proofs.Time.group.Tie as tie
 
@@ -15,19 +15,27 @@ chosen t = groupIn eighteen (t .month) (t .day) (t .hour)
 inside : (c : tie.Start) → Within (c .args .self .month) (c .args .self .day) (c .args .self .hour)
 inside c = let s = c .args .self in within (s .month) (s .day) (s .hour) (c .pre)
 
-first-group-requires : tie.Need-first-group-requires
-first-group-requires c κs = inside c .month-last
+season-requires : tie.Need-season-requires
+season-requires c κs = inside c .month-last
+
+mul-result : tie.Need-mul-result
+mul-result c = omega (arith, c .season .ensures, season-last (c .before .args .self .month))
 
 period-requires : tie.Need-period-requires
 period-requires c κs = (inside (c .before) .day-last, inside (c .before) .hour-last)
 
-sum : (c : tie.After-period) → c .before .first-group .result + c .period .result ≡ chosen (c .before .before .args .self)
+sum : (c : tie.After-period) → c .before .season .result * 6 + c .period .result + 1 ≡ chosen (c .before .before .args .self)
 sum c =
     let s = c .before .before in
-    (λ i. c .before .first-group .ensures i + c .period .ensures i) ∙ agree (s .args .self .month) (s .args .self .day) (s .args .self .hour) (s .pre)
+    (λ i. c .before .season .ensures i * 6 + c .period .ensures i + 1) ∙ agree (s .args .self .month) (s .args .self .day) (s .args .self .hour) (s .pre)
 
 add-result : tie.Need-add-result
 add-result c =
+    let s = c .before .before in
+    omega (arith, sum c, eighteen-parted .numbered (s .args .self .month) (s .args .self .day) (s .args .self .hour) (s .pre) .1)
+
+add-result-2 : tie.Need-add-result-2
+add-result-2 c =
     let s = c .before .before in
     omega (arith, sum c, eighteen-parted .numbered (s .args .self .month) (s .args .self .day) (s .args .self .hour) (s .pre) .1)
 
@@ -35,4 +43,4 @@ returns : tie.Need-returns
 returns c = sum c
 
 pub group-spec : {M : Type 1} → statement M
-group-spec = tie.close (tie.spec first-group-requires period-requires add-result returns)
+group-spec = tie.close (tie.spec season-requires mul-result period-requires add-result add-result-2 returns)
