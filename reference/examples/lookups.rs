@@ -1,7 +1,8 @@
-//! The chart and the import test at document 01's edges. What it prints is
-//! what the program `lookups` must write.
+//! The chart and the import test at document 01's edges, and the newer chart
+//! of document 02, order 5, whole. What it prints is what the program
+//! `lookups` must write.
 
-use reference::chart::{self, Table};
+use reference::chart::{self, Entry, Table, NEWER, OLDER};
 use reference::history::{self, Window};
 use reference::refusal::Refusal;
 
@@ -15,6 +16,10 @@ fn main() {
     seasons();
     ends_of_the_tables();
     past_the_limits();
+    newer_chart();
+    newer_seasons();
+    past_the_limits_of_the_newer();
+    editions();
     shares();
     windows();
     most();
@@ -25,47 +30,95 @@ fn main() {
 /// holiday in each other season.
 fn periods() {
     for hour in [0, 6, 7, 10, 11, 14, 15, 18, 19, 22, 23] {
-        look(Table::Import, 1, 7, ORDINARY, hour);
+        look(OLDER, Table::Import, 1, 7, ORDINARY, hour);
     }
     for hour in [6, 7, 22, 23] {
-        look(Table::Import, 1, 7, HOLIDAY, hour);
+        look(OLDER, Table::Import, 1, 7, HOLIDAY, hour);
     }
     for month in [1, 10] {
-        look(Table::Import, 1, month, HOLIDAY, 12);
+        look(OLDER, Table::Import, 1, month, HOLIDAY, 12);
     }
 }
 
 /// The months in which a season begins or ends, and those beside them.
 fn seasons() {
     for month in [4, 5, 8, 9, 11, 12, 1, 2, 3] {
-        look(Table::Export, 2, month, ORDINARY, 7);
+        look(OLDER, Table::Export, 2, month, ORDINARY, 7);
     }
 }
 
 /// The least and the largest differential, then the first and the last of
 /// each table.
 fn ends_of_the_tables() {
-    look(Table::Import, 4, 1, ORDINARY, 11);
-    look(Table::Import, 9, 7, ORDINARY, 15);
+    look(OLDER, Table::Import, 4, 1, ORDINARY, 11);
+    look(OLDER, Table::Import, 9, 7, ORDINARY, 15);
     for table in [Table::Import, Table::Export] {
-        look(table, 1, 5, ORDINARY, 7);
-        look(table, 10, 11, ORDINARY, 23);
+        look(OLDER, table, 1, 5, ORDINARY, 7);
+        look(OLDER, table, 10, 11, ORDINARY, 23);
     }
 }
 
 /// Each number that is looked up by, at its limits and past them.
 fn past_the_limits() {
     for bus in [0, 1, 10, 11, u64::MAX] {
-        look(Table::Import, bus, 7, ORDINARY, 7);
+        look(OLDER, Table::Import, bus, 7, ORDINARY, 7);
     }
     for month in [0, 1, 12, 13, u64::MAX] {
-        look(Table::Import, 1, month, ORDINARY, 7);
+        look(OLDER, Table::Import, 1, month, ORDINARY, 7);
     }
     for day_type in [ORDINARY, HOLIDAY, 2, u64::MAX] {
-        look(Table::Export, 1, 7, day_type, 7);
+        look(OLDER, Table::Export, 1, 7, day_type, 7);
     }
     for hour in [0, 23, 24, u64::MAX] {
-        look(Table::Export, 1, 7, ORDINARY, hour);
+        look(OLDER, Table::Export, 1, 7, ORDINARY, hour);
+    }
+}
+
+/// The whole newer chart: a month of each season, each type of day, each hour.
+fn newer_chart() {
+    for month in [7, 1, 10] {
+        for day_type in [ORDINARY, HOLIDAY] {
+            for hour in 0..24 {
+                look(NEWER, Table::Import, 1, month, day_type, hour);
+            }
+        }
+    }
+}
+
+/// The months in which a season begins or ends, and those beside them.
+fn newer_seasons() {
+    for month in [4, 5, 8, 9, 11, 12, 1, 2, 3] {
+        look(NEWER, Table::Import, 2, month, ORDINARY, 7);
+    }
+}
+
+/// Each number that the newer chart is looked up by, at its limits and past
+/// them.
+fn past_the_limits_of_the_newer() {
+    for bus in [0, 1, 10, 11, u64::MAX] {
+        look(NEWER, Table::Import, bus, 7, ORDINARY, 18);
+    }
+    for month in [0, 12, 13, u64::MAX] {
+        look(NEWER, Table::Import, 1, month, ORDINARY, 18);
+    }
+    for day_type in [HOLIDAY, 2, u64::MAX] {
+        look(NEWER, Table::Import, 1, 7, day_type, 18);
+    }
+    for hour in [0, 23, 24, u64::MAX] {
+        look(NEWER, Table::Import, 1, 7, ORDINARY, hour);
+    }
+}
+
+/// An export in each edition, then editions that are none.
+fn editions() {
+    for edition in [OLDER, NEWER] {
+        look(edition, Table::Export, 1, 7, ORDINARY, 18);
+    }
+    for edition in [0, OLDER, NEWER, 3, u64::MAX] {
+        look(edition, Table::Import, 1, 7, ORDINARY, 18);
+    }
+    for edition in [0, 3] {
+        look(edition, Table::Export, 1, 7, ORDINARY, 18);
     }
 }
 
@@ -138,16 +191,25 @@ fn contradictions() {
     }
 }
 
-fn look(table: Table, bus: u64, month: u64, day_type: u64, hour: u64) {
+/// Where the answer is the group only, no cents are printed.
+fn look(edition: u64, table: Table, bus: u64, month: u64, day_type: u64, hour: u64) {
     let name = match table {
         Table::Import => "import",
         Table::Export => "export",
     };
-    let answer = chart::lookup(table, bus, month, day_type, hour);
+    let answer = chart::lookup(edition, table, bus, month, day_type, hour);
     let number = number(answer.err());
-    let (group, cents) = answer.map_or((0, 0), |entry| (entry.group, entry.differential));
-    print!("{name} bus {bus} month {month} day type {day_type} hour {hour}");
-    println!(": {number} {group} {cents}");
+    let nothing = Entry {
+        group: 0,
+        differential: Some(0),
+    };
+    let entry = answer.unwrap_or(nothing);
+    print!("edition {edition} {name} bus {bus} month {month}");
+    print!(" day type {day_type} hour {hour}: {number} {}", entry.group);
+    match entry.differential {
+        Some(cents) => println!(" {cents}"),
+        None => println!(),
+    }
 }
 
 /// The bids, the MWh and the loss of three months, then those of six.

@@ -1,12 +1,21 @@
-//! The differential chart: the 360 published differentials and their lookup.
+//! The differential chart in its two editions, and the lookup: the 18 groups
+//! with the 360 published differentials, and the 33 import groups of 001.
 
 use crate::limits;
 use crate::refusal::{require, Refusal};
 
+/// "The caller names the edition" (02, order 5). The older chart, of "18
+/// groups", for imports and exports.
+pub const OLDER: u64 = 1;
+
+/// The newer chart: the filing "replaces the 18 import groups with 33" (02,
+/// order 5). "Export keeps the old chart."
+pub const NEWER: u64 = 2;
+
 /// Summer, winter and the rest of the year.
 pub const SEASONS: usize = 3;
 
-/// "18 groups": six in each season.
+/// "18 groups": six in each season, in the older chart.
 pub const GROUPS_IN_SEASON: usize = 6;
 
 /// "Bus 1 to 10 in the appendix's order."
@@ -24,16 +33,20 @@ pub enum Table {
 /// What the lookup answers: "group and differential".
 #[derive(Clone, Copy, Debug, PartialEq, Eq)]
 pub struct Entry {
-    /// The group, 1 to 18.
+    /// The group: 1 to 18 in the older chart, 1 to 33 in the newer.
     pub group: u64,
-    /// The differential, in cents per MWh.
-    pub differential: u64,
+    /// The differential, in cents per MWh. None in the newer chart: "the new
+    /// edition answers the group only" (02, order 5).
+    pub differential: Option<u64>,
 }
 
-/// Looks a differential up.
+/// Looks a group up in an edition, and in the older one its differential.
 ///
-/// Refusal 18: "bus, month, day type or hour out of range."
+/// Refusal 18: "bus, month, day type or hour out of range", in either
+/// edition; it "covers an unknown edition and an export lookup in the new
+/// one" (02, order 5).
 pub fn lookup(
+    edition: u64,
     table: Table,
     bus: u64,
     month: u64,
@@ -45,32 +58,62 @@ pub fn lookup(
         && limits::DAY_TYPE.contains(&day_type)
         && limits::HOUR_OF_DAY.contains(&hour);
     require(in_range, Refusal::Lookup)?;
-    let season = season(month);
-    let place = place_in_season(day_type, hour);
-    let buses = match table {
-        Table::Import => &IMPORT,
-        Table::Export => &EXPORT,
-    };
-    Ok(Entry {
-        group: (GROUPS_IN_SEASON * season + place + 1) as u64,
-        differential: buses[bus as usize - 1][season][place],
-    })
+    match (edition, table) {
+        (OLDER, Table::Import) => Ok(older(&IMPORT, bus, month, day_type, hour)),
+        (OLDER, Table::Export) => Ok(older(&EXPORT, bus, month, day_type, hour)),
+        (NEWER, Table::Import) => Ok(newer(month, day_type, hour)),
+        _ => Err(Refusal::Lookup),
+    }
 }
 
+/// The differentials of a table, in cents per MWh, by bus, season and group
+/// of the season.
+type Published = [[[u64; GROUPS_IN_SEASON]; SEASONS]; BUSES];
+
+/// The older chart: "group and differential".
+fn older(buses: &Published, bus: u64, month: u64, day_type: u64, hour: u64) -> Entry {
+    let season = season(month);
+    let place = place_in_season(day_type, hour);
+    Entry {
+        group: (GROUPS_IN_SEASON * season + place + 1) as u64,
+        differential: Some(buses[bus as usize - 1][season][place]),
+    }
+}
+
+/// The newer chart, 001's table "Import Price Differential (IPD) Groups", the
+/// underlined one: one chart "For Each Proxy Generator Bus".
+fn newer(month: u64, day_type: u64, hour: u64) -> Entry {
+    let group = match season(month) {
+        SUMMER => summer(day_type, hour),
+        WINTER => winter(day_type, hour),
+        _ => rest_of_year(day_type, hour),
+    };
+    Entry {
+        group,
+        differential: None,
+    }
+}
+
+const SUMMER: usize = 0;
+const WINTER: usize = 1;
+const REST_OF_YEAR: usize = 2;
+
 /// "Summer is May to August (groups 1 to 6), winter December to February
-/// (7 to 12), the rest 13 to 18."
+/// (7 to 12), the rest 13 to 18." The newer chart has the same months, the
+/// rest being "March, April, September, October, and November".
 fn season(month: u64) -> usize {
     match month {
-        5..=8 => 0,
-        12 | 1 | 2 => 1,
-        _ => 2,
+        5..=8 => SUMMER,
+        12 | 1 | 2 => WINTER,
+        _ => REST_OF_YEAR,
     }
 }
 
 /// "In a season: hours beginning 7-10, 11-14, 15-18, 19-22 on ordinary
 /// weekdays; weekend or holiday 7-22; night 23-6 on any day."
 ///
-/// Counted from 0, so that the first group of a season is at 0.
+/// Of the older chart; counted from 0, so that the first group of a season is
+/// at 0.
 fn place_in_season(day_type: u64, hour: u64) -> usize {
     match (day_type, hour) {
         (_, 23 | 0..=6) => 5,
@@ -82,8 +125,63 @@ fn place_in_season(day_type: u64, hour: u64) -> usize {
     }
 }
 
-/// Virtual supply, in cents per MWh, by bus, season and group of the season.
-const IMPORT: [[[u64; GROUPS_IN_SEASON]; SEASONS]; BUSES] = [
+/// IPD-1 to IPD-14: "HB07-09" to "HB21-22" with "HB18" alone, six of "Weekend/
+/// Holiday", "Night (HB00,23)" and "Night (HB01-06)".
+fn summer(day_type: u64, hour: u64) -> u64 {
+    match (day_type, hour) {
+        (_, 0 | 23) => 13,
+        (_, 1..=6) => 14,
+        (0, 7..=9) => 1,
+        (0, 10..=12) => 2,
+        (0, 13..=17) => 3,
+        (0, 18) => 4,
+        (0, 19..=20) => 5,
+        (0, 21..=22) => 6,
+        (1, 7..=8) => 7,
+        (1, 9..=12) => 8,
+        (1, 13..=14) => 9,
+        (1, 15..=16) => 10,
+        (1, 17..=18) => 11,
+        (_, _) => 12,
+    }
+}
+
+/// IPD-15 to IPD-25: "HB08-09" to "HB21-22", "Weekend/ Holiday (HB16-20)" and
+/// "(Other HB08-22)", "Night (HB00,01,23)", "(HB02-05)" and "(HB06-07)":
+/// "winter night taking in hour 7" (02, order 5).
+fn winter(day_type: u64, hour: u64) -> u64 {
+    match (day_type, hour) {
+        (_, 0 | 1 | 23) => 23,
+        (_, 2..=5) => 24,
+        (_, 6..=7) => 25,
+        (0, 8..=9) => 15,
+        (0, 10..=12) => 16,
+        (0, 13..=15) => 17,
+        (0, 16..=17) => 18,
+        (0, 18..=20) => 19,
+        (0, 21..=22) => 20,
+        (1, 16..=20) => 21,
+        (_, _) => 22,
+    }
+}
+
+/// IPD-26 to IPD-33: "HB07-10" to "HB20-22", "Weekend/ Holiday (HB17-20)" and
+/// "(Other HB07-22)", "Night (HB00,06,23)" and "(HB01-05)".
+fn rest_of_year(day_type: u64, hour: u64) -> u64 {
+    match (day_type, hour) {
+        (_, 0 | 6 | 23) => 32,
+        (_, 1..=5) => 33,
+        (0, 7..=10) => 26,
+        (0, 11..=14) => 27,
+        (0, 15..=19) => 28,
+        (0, 20..=22) => 29,
+        (1, 17..=20) => 30,
+        (_, _) => 31,
+    }
+}
+
+/// Virtual supply.
+const IMPORT: Published = [
     // HQ Wheel
     [
         [3_576, 5_609, 5_862, 3_771, 3_815, 3_115],
@@ -146,8 +244,8 @@ const IMPORT: [[[u64; GROUPS_IN_SEASON]; SEASONS]; BUSES] = [
     ],
 ];
 
-/// Virtual load, in cents per MWh, by bus, season and group of the season.
-const EXPORT: [[[u64; GROUPS_IN_SEASON]; SEASONS]; BUSES] = [
+/// Virtual load.
+const EXPORT: Published = [
     // HQ Wheel
     [
         [4_643, 5_657, 6_500, 5_184, 5_197, 3_866],
@@ -213,10 +311,11 @@ const EXPORT: [[[u64; GROUPS_IN_SEASON]; SEASONS]; BUSES] = [
 #[cfg(test)]
 mod tests {
     use super::*;
+    use std::collections::BTreeSet;
 
     fn entry(table: Table, bus: u64, month: u64, day_type: u64, hour: u64) -> (u64, u64) {
-        let entry = lookup(table, bus, month, day_type, hour).unwrap();
-        (entry.group, entry.differential)
+        let entry = lookup(OLDER, table, bus, month, day_type, hour).unwrap();
+        (entry.group, entry.differential.unwrap())
     }
 
     fn group(month: u64, day_type: u64, hour: u64) -> u64 {
@@ -286,27 +385,266 @@ mod tests {
         assert_eq!(entry(Table::Export, 10, 4, 0, 23), (18, 3699));
     }
 
+    /// Each edition with each table that it answers.
+    const ANSWERED: [(u64, Table); 3] = [
+        (OLDER, Table::Import),
+        (OLDER, Table::Export),
+        (NEWER, Table::Import),
+    ];
+
     #[test]
     fn refusal_18_for_each_number_out_of_range() {
         let refused = Err(Refusal::Lookup);
-        for table in [Table::Import, Table::Export] {
+        for (edition, table) in ANSWERED {
+            let look =
+                |bus, month, day_type, hour| lookup(edition, table, bus, month, day_type, hour);
             for far in [u64::MAX, 1 << 32] {
-                assert_eq!(lookup(table, far, 7, 0, 12), refused);
-                assert_eq!(lookup(table, 1, far, 0, 12), refused);
-                assert_eq!(lookup(table, 1, 7, far, 12), refused);
-                assert_eq!(lookup(table, 1, 7, 0, far), refused);
+                assert_eq!(look(far, 7, 0, 12), refused);
+                assert_eq!(look(1, far, 0, 12), refused);
+                assert_eq!(look(1, 7, far, 12), refused);
+                assert_eq!(look(1, 7, 0, far), refused);
             }
             for bus in [0, 11] {
-                assert_eq!(lookup(table, bus, 7, 0, 12), refused);
+                assert_eq!(look(bus, 7, 0, 12), refused);
             }
             for month in [0, 13] {
-                assert_eq!(lookup(table, 1, month, 0, 12), refused);
+                assert_eq!(look(1, month, 0, 12), refused);
             }
-            assert_eq!(lookup(table, 1, 7, 2, 12), refused);
-            assert_eq!(lookup(table, 1, 7, 0, 24), refused);
-            assert!(lookup(table, 10, 12, 1, 23).is_ok());
-            assert!(lookup(table, 1, 1, 0, 0).is_ok());
+            assert_eq!(look(1, 7, 2, 12), refused);
+            assert_eq!(look(1, 7, 0, 24), refused);
+            assert!(look(10, 12, 1, 23).is_ok());
+            assert!(look(1, 1, 0, 0).is_ok());
         }
         assert_eq!(Refusal::Lookup.number(), 18);
+    }
+
+    #[test]
+    fn refusal_18_for_an_unknown_edition_and_an_export_in_the_new_one() {
+        let refused = Err(Refusal::Lookup);
+        for (month, day_type, hour) in every_hour() {
+            for bus in 1..=10 {
+                let look = |edition, table| lookup(edition, table, bus, month, day_type, hour);
+                for edition in [0, 3, 1 << 32, u64::MAX] {
+                    assert_eq!(look(edition, Table::Import), refused);
+                    assert_eq!(look(edition, Table::Export), refused);
+                }
+                assert_eq!(look(NEWER, Table::Export), refused);
+                assert!(ANSWERED
+                    .iter()
+                    .all(|&(edition, table)| look(edition, table).is_ok()));
+            }
+        }
+    }
+
+    /// Every month, day type and hour.
+    fn every_hour() -> impl Iterator<Item = (u64, u64, u64)> {
+        (0..12 * 2 * 24).map(|i| (i / 48 + 1, i / 24 % 2, i % 24))
+    }
+
+    /// The newer chart's group; the same at every bus, with no differential.
+    fn newer_group(month: u64, day_type: u64, hour: u64) -> u64 {
+        let entry = lookup(NEWER, Table::Import, 1, month, day_type, hour).unwrap();
+        assert_eq!(entry.differential, None);
+        for bus in 2..=10 {
+            let other = lookup(NEWER, Table::Import, bus, month, day_type, hour);
+            assert_eq!(other, Ok(entry));
+        }
+        entry.group
+    }
+
+    /// The months of a season, and its rows in the words of 001.
+    type PrintedSeason = (&'static [u64], &'static [&'static str]);
+
+    const SUMMER_MONTHS: &[u64] = &[5, 6, 7, 8];
+    const WINTER_MONTHS: &[u64] = &[12, 1, 2];
+    const OTHER_MONTHS: &[u64] = &[3, 4, 9, 10, 11];
+
+    const OLDER_ROWS: &[&str] = &[
+        "HB07-10",
+        "HB11-14",
+        "HB15-18",
+        "HB19-22",
+        "Weekend/ Holiday (HB07-22)",
+        "Night (HB23-06)",
+    ];
+
+    /// IPD-1 to IPD-18, and the groups of the exports with them.
+    const OLDER_PRINTED: [PrintedSeason; SEASONS] = [
+        (SUMMER_MONTHS, OLDER_ROWS),
+        (WINTER_MONTHS, OLDER_ROWS),
+        (OTHER_MONTHS, OLDER_ROWS),
+    ];
+
+    /// IPD-1 to IPD-33.
+    const NEWER_PRINTED: [PrintedSeason; SEASONS] = [
+        (
+            SUMMER_MONTHS,
+            &[
+                "HB07-09",
+                "HB10-12",
+                "HB13-17",
+                "HB18",
+                "HB19-20",
+                "HB21-22",
+                "Weekend/ Holiday (HB07-08)",
+                "Weekend/ Holiday (HB09-12)",
+                "Weekend/ Holiday (HB13-14)",
+                "Weekend/ Holiday (HB15-16)",
+                "Weekend/ Holiday (HB17-18)",
+                "Weekend/ Holiday (HB19-22)",
+                "Night (HB00,23)",
+                "Night (HB01-06)",
+            ],
+        ),
+        (
+            WINTER_MONTHS,
+            &[
+                "HB08-09",
+                "HB10-12",
+                "HB13-15",
+                "HB16-17",
+                "HB18-20",
+                "HB21-22",
+                "Weekend/ Holiday (HB16-20)",
+                "Weekend/ Holiday (Other HB08-22)",
+                "Night (HB00,01,23)",
+                "Night (HB02-05)",
+                "Night (HB06-07)",
+            ],
+        ),
+        (
+            OTHER_MONTHS,
+            &[
+                "HB07-10",
+                "HB11-14",
+                "HB15-19",
+                "HB20-22",
+                "Weekend/ Holiday (HB17-20)",
+                "Weekend/ Holiday (Other HB07-22)",
+                "Night (HB00,06,23)",
+                "Night (HB01-05)",
+            ],
+        ),
+    ];
+
+    /// "Weekend/ Holiday" is one day type, "Night" any day; a row that has no
+    /// such word is of ordinary weekdays.
+    fn day_types(row: &str) -> &'static [u64] {
+        if row.starts_with("Night") {
+            &[0, 1]
+        } else if row.starts_with("Weekend/ Holiday") {
+            &[1]
+        } else {
+            &[0]
+        }
+    }
+
+    /// "07-10", "23-06" or "18".
+    fn span(text: &str) -> Vec<u64> {
+        let (first, last) = text.split_once('-').unwrap_or((text, text));
+        let [first, last] = [first, last].map(|hour| hour.parse::<u64>().unwrap());
+        let more = (last + 24 - first) % 24;
+        (first..=first + more).map(|hour| hour % 24).collect()
+    }
+
+    /// The hours that stand after "HB".
+    fn hours_named(row: &str) -> Vec<u64> {
+        let (_, hours) = row.split_once("HB").unwrap();
+        let hours = hours.trim_end_matches(')');
+        hours.split(',').flat_map(span).collect()
+    }
+
+    /// The hours of a row; "Other" has those that no other row of the season
+    /// names for its day type.
+    fn hours(row: &str, rows: &[&str]) -> Vec<u64> {
+        let mut hours = hours_named(row);
+        if row.contains("Other") {
+            for other in rows.iter().filter(|&&other| other != row) {
+                if day_types(other) == day_types(row) {
+                    hours.retain(|hour| !hours_named(other).contains(hour));
+                }
+            }
+        }
+        hours
+    }
+
+    /// Each row of a printed chart that has an hour, by its group's number.
+    fn rows_with(printed: &[PrintedSeason], (month, day_type, hour): (u64, u64, u64)) -> Vec<u64> {
+        let rows = printed
+            .iter()
+            .flat_map(|&(months, rows)| rows.iter().map(move |&row| (months, rows, row)));
+        (1..)
+            .zip(rows)
+            .filter(|(_, (months, _, _))| months.contains(&month))
+            .filter(|(_, (_, _, row))| day_types(row).contains(&day_type))
+            .filter(|(_, (_, rows, row))| hours(row, rows).contains(&hour))
+            .map(|(group, _)| group)
+            .collect()
+    }
+
+    #[test]
+    fn every_month_day_type_and_hour_has_exactly_one_group_and_every_group_some_hour() {
+        for (edition, table) in ANSWERED {
+            let (printed, groups) = match edition {
+                OLDER => (OLDER_PRINTED, 18),
+                _ => (NEWER_PRINTED, 33),
+            };
+            let mut met = BTreeSet::new();
+            for (month, day_type, hour) in every_hour() {
+                let entry = lookup(edition, table, 1, month, day_type, hour).unwrap();
+                let rows = rows_with(&printed, (month, day_type, hour));
+                assert_eq!(rows, [entry.group], "{edition} {month} {day_type} {hour}");
+                met.insert(entry.group);
+            }
+            assert!(met.into_iter().eq(1..=groups));
+        }
+    }
+
+    #[test]
+    fn summer_weekday_hour_18_is_alone_in_group_4() {
+        for (month, day_type, hour) in every_hour() {
+            let named = (5..=8).contains(&month) && day_type == 0 && hour == 18;
+            assert_eq!(newer_group(month, day_type, hour) == 4, named);
+        }
+    }
+
+    #[test]
+    fn winter_night_takes_in_hour_7() {
+        for month in [12, 1, 2] {
+            for day_type in [0, 1] {
+                assert_eq!(newer_group(month, day_type, 6), 25);
+                assert_eq!(newer_group(month, day_type, 7), 25);
+            }
+            assert_eq!(newer_group(month, 0, 8), 15);
+            assert_eq!(newer_group(month, 1, 8), 22);
+        }
+        // Night ends at hour 6 in the other seasons, and in the older chart.
+        assert_eq!((newer_group(7, 0, 7), newer_group(7, 1, 7)), (1, 7));
+        assert_eq!((newer_group(10, 0, 7), newer_group(10, 1, 7)), (26, 31));
+        assert_eq!((group(1, 0, 7), group(1, 1, 7)), (7, 11));
+    }
+
+    #[test]
+    fn other_hours_of_a_weekend_stand_on_both_sides() {
+        let hours_of = |month, wanted| -> Vec<u64> {
+            (0..24)
+                .filter(|&hour| newer_group(month, 1, hour) == wanted)
+                .collect()
+        };
+        assert_eq!(hours_of(1, 22), [8, 9, 10, 11, 12, 13, 14, 15, 21, 22]);
+        assert_eq!(hours_of(1, 21), [16, 17, 18, 19, 20]);
+        assert_eq!(
+            hours_of(10, 31),
+            [7, 8, 9, 10, 11, 12, 13, 14, 15, 16, 21, 22]
+        );
+        assert_eq!(hours_of(10, 30), [17, 18, 19, 20]);
+    }
+
+    #[test]
+    fn every_month_of_the_newer_chart() {
+        let first: Vec<u64> = (1..=12).map(|month| newer_group(month, 0, 8)).collect();
+        let night: Vec<u64> = (1..=12).map(|month| newer_group(month, 1, 3)).collect();
+        assert_eq!(first, [15, 15, 26, 26, 1, 1, 1, 1, 26, 26, 26, 15]);
+        assert_eq!(night, [24, 24, 33, 33, 14, 14, 14, 14, 33, 33, 33, 24]);
     }
 }

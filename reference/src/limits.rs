@@ -65,7 +65,8 @@ pub const PENDING_REQUIREMENT: RangeInclusive<i64> = 0..=0;
 /// The import test's numbers, "each 0 to 10^9".
 pub const HISTORY: RangeInclusive<u64> = 0..=1_000_000_000;
 
-/// "Bus 1 to 10 in the appendix's order."
+/// "Bus 1 to 10 in the appendix's order." This and the three below bound a
+/// lookup in either edition of the chart.
 pub const BUS: RangeInclusive<u64> = 1..=10;
 
 /// "Month 1 to 12."

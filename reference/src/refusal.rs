@@ -44,7 +44,8 @@ pub enum Refusal {
     AboveSupport = 16,
     /// 17: "import test: windows contradict".
     WindowsContradict = 17,
-    /// 18: "lookup: bus, month, day type or hour out of range".
+    /// 18: "lookup: bus, month, day type or hour out of range"; "18 covers an
+    /// unknown edition and an export lookup in the new one" (02, order 5).
     Lookup = 18,
 }
 

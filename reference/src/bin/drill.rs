@@ -13,6 +13,7 @@ use reference::book::{
 };
 use reference::chart::{self, Table};
 use reference::history::{self, Window};
+use reference::limits;
 
 const MODULUS: u64 = 2_147_483_647;
 const MULTIPLIER: u64 = 48_271;
@@ -66,11 +67,13 @@ mod rows {
     const FIELDS_BELOW: u64 = 96;
     /// To 975.
     const REBUILT: u64 = 960;
-    /// To 1,023: kind 5, at stages 0 to 7 where it has one.
+    /// To 1,007: kind 5, at stages 0 to 7 where it has one.
     const QUARTERS: u64 = 976;
     const ACCEPTED_AT_STAGE: u64 = 992;
     const WRONG_STAGE: u64 = 1_000;
     const STAGES_BELOW: u64 = 8;
+    /// To 1,023: the lookup by its edition.
+    const EDITIONS: u64 = 1_008;
 
     pub const TEN_OVER_FIFTEEN: u64 = PAIRS;
     pub const TWELVE_OVER_THIRTEEN: u64 = PAIRS + 1;
@@ -139,6 +142,12 @@ mod rows {
     pub const ONE_CURVE_FOR_KIND_5: u64 = QUARTERS + 11;
     pub const FOUR_CURVES_FOR_OTHERS: u64 = QUARTERS + 12;
     pub const PENDING_WITH_REQUIREMENT: u64 = QUARTERS + 13;
+    pub const OLDER_IMPORT: u64 = EDITIONS;
+    pub const OLDER_EXPORT: u64 = EDITIONS + 1;
+    pub const NEWER_ANSWERED: u64 = EDITIONS + 2;
+    pub const EDITION_UNKNOWN: u64 = EDITIONS + 3;
+    pub const NEWER_EXPORT_REFUSED: u64 = EDITIONS + 4;
+    pub const NEWER_IMPORT_REFUSED: u64 = EDITIONS + 5;
 
     /// A message that was answered so; 0 is acceptance.
     pub fn answer(message: u64, number: u64) -> u64 {
@@ -396,6 +405,7 @@ const DIFFERENTIALS: [u64; 8] = [0, 1, 1_200, 1_400, 4_000, 6_000, 999_999, 1_00
 const TEST_BIDS: [u64; 8] = [0, 1, 49, 50, 51, 100, 1_000_000_000, 1_000_000_001];
 const TEST_MWH: [u64; 8] = [0, 1, 99, 100, 101, 400, 1_000_000_000, 1_000_000_001];
 const TEST_LOSS: [u64; 8] = [0, 1, 24, 25, 26, 100, 1_000_000_000, 1_000_000_001];
+const EDITIONS: [u64; 8] = [1, 2, 1, 2, 1, 2, 0, 3];
 const KINDS_OUT: [u64; 8] = [0, 6, 7, 8, 9, 10, 11, u64::MAX];
 const PATHS_OUT: [u64; 8] = [0, 1_000, 1_001, 1_002, 2_000, 3_000, 4_000, u64::MAX];
 const HOURS_OUT: [u64; 8] = [
@@ -787,6 +797,7 @@ impl Run {
 
     fn look_up(&mut self, draws: &Draws) {
         let w = draws.look;
+        let edition = one_of(&EDITIONS, draws.day / 75);
         let table = if w % 2 == 0 {
             Table::Import
         } else {
@@ -794,15 +805,36 @@ impl Run {
         };
         let (bus, month) = (w / 2 % 12, w / 24 % 14);
         let (day_type, hour) = (draws.day % 3, draws.day / 3 % 25);
-        let (number, group, cents) = match chart::lookup(table, bus, month, day_type, hour) {
-            Ok(entry) => (0, entry.group, entry.differential),
+        let answer = chart::lookup(edition, table, bus, month, day_type, hour);
+        let (number, group, cents) = match answer {
+            Ok(entry) => (0, entry.group, entry.differential.unwrap_or(0)),
             Err(refusal) => (refusal.number(), 0, 0),
         };
         self.count(number == 0, rows::LOOK_ANSWERED);
         self.count(number == 18, rows::LOOK_REFUSED);
+        let rest_in_range = limits::BUS.contains(&bus)
+            && limits::MONTH.contains(&month)
+            && limits::DAY_TYPE.contains(&day_type)
+            && limits::HOUR_OF_DAY.contains(&hour);
+        self.count_edition(edition, table, number, rest_in_range);
         self.digest.mix(number);
         self.digest.mix(group);
         self.digest.mix(cents);
+    }
+
+    /// A lookup by its edition and table: answered, or refused 18 for one of
+    /// these alone, or for the rest in the newer edition.
+    fn count_edition(&mut self, edition: u64, table: Table, number: u64, rest_in_range: bool) {
+        let row = match (number, edition, table) {
+            (0, chart::OLDER, Table::Import) => rows::OLDER_IMPORT,
+            (0, chart::OLDER, Table::Export) => rows::OLDER_EXPORT,
+            (0, chart::NEWER, _) => rows::NEWER_ANSWERED,
+            (18, chart::NEWER, Table::Import) => rows::NEWER_IMPORT_REFUSED,
+            (18, chart::NEWER, Table::Export) if rest_in_range => rows::NEWER_EXPORT_REFUSED,
+            (18, 0 | 3.., _) if rest_in_range => rows::EDITION_UNKNOWN,
+            _ => return,
+        };
+        self.count(true, row);
     }
 
     /// The turn's message to a book set aside, and what a screen asks of it

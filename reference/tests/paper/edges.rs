@@ -61,8 +61,12 @@ fn loss_24_of_100_mwh_over_50_bids_is_exempt_25_is_not() {
 fn hour_22_on_a_weekday_is_group_4_in_july_hour_23_group_6() {
     for table in [chart::Table::Import, chart::Table::Export] {
         for bus in 1..=10 {
-            assert_eq!(chart::lookup(table, bus, 7, 0, 22).unwrap().group, 4);
-            assert_eq!(chart::lookup(table, bus, 7, 0, 23).unwrap().group, 6);
+            let group = |hour| {
+                let entry = chart::lookup(chart::OLDER, table, bus, 7, 0, hour);
+                entry.unwrap().group
+            };
+            assert_eq!(group(22), 4);
+            assert_eq!(group(23), 6);
         }
     }
 }

@@ -1,6 +1,6 @@
 //! Document 01, sentence by sentence, through the public book; in `kept`
 //! order 1 of document 02, in `filed` order 2, in `curves` and `closes`
-//! order 3.
+//! order 3. Order 5 is tested beside the library's `chart`.
 
 mod closes;
 mod curves;
