@@ -15,7 +15,7 @@ use Rattle.amounts.specs.Lists.{total, every}
 use Rattle.amounts.proofs.Sums.{range-total}
 use Rattle.refusals.proofs.Laws.{never, and-left, and-right, and-both}
 use Rattle.kinds.specs.declared.Rules.{Rules}
-use Rattle.kinds.specs.Kinds.{quarterHour, bidStage, postedStage, billedStage, hasStage, pendingFits, quarterHourRules, rulesOf}
+use Rattle.kinds.specs.Kinds.{quarterHour, bidStage, postedStage, billedStage, hasStage, isScheduled, pendingFits, quarterHourRules, rulesOf}
 use Rattle.kinds.proofs.ByKind.{rules-5}
 use Rattle.kinds.proofs.Fits.{pending-range}
 use Rattle.keys.specs.declared.Key.{Key}
@@ -104,7 +104,7 @@ closed-ok hour paths prices r p h =
     let own = rulesOf (r .key .kind) in
     let z = closedFor paths prices r in
     advanced-ok r postedStage (r .schedule) (r .price) z c (subst (λ (x : Rules). hasStage x postedStage ≡ true) (sym (rules hour r p)) refl)
-    (late-schedule (leb (r .schedule) (r .mwh)) (eqb (r .stage) bidStage) (eqb (own .posted) 0) (eqb (r .schedule) 0) (ap (λ (n : ℕ). eqb n bidStage) (pending-is hour r p .stage)) (c .schedule))
+    (late-schedule (leb (r .schedule) (r .mwh)) (eqb (r .stage) bidStage) (not (isScheduled own)) (eqb (r .schedule) 0) (ap (λ (n : ℕ). eqb n bidStage) (pending-is hour r p .stage)) (c .schedule))
     (late-price (isPrice (r .price)) (own .dayahead) (leb postedStage (r .stage)) (isNil (r .price)) (c .dayAhead))
     (alone (pendingFits own z) (pending-range (r .key .kind) z quarterHourRules 640000000000 (rules hour r p) refl (closed-for-range paths prices r)))
     refl

@@ -10,7 +10,7 @@ use lib.Dec.{leb, eqb}
 use lib.IntN.{ℤ, pos, negℤ, _*ℤ_}
 use lib.Signed.{leZ}
 use lib.ListN.{length, getD}
-use borrow.Author.Tests.{not-false, leb-true, le-leb, eqb-true}
+use borrow.Author.Tests.{not-true, not-false, leb-true, le-leb, eqb-true}
 use Rattle.amounts.specs.Amount.{up, Range}
 use Rattle.amounts.specs.Limits.{between, isPointMwh, isPrice}
 use Rattle.amounts.specs.Lists.{every}
@@ -18,8 +18,8 @@ use Rattle.amounts.proofs.Signed.{up-neg, mul-mono, larger-of, times-of, range-
 use Rattle.refusals.specs.Refusals.{row, first, judge, None}
 use Rattle.refusals.proofs.Laws.{numbered, and-left, and-right, never, none-applies, none-split, numbered-append, answered-none, answered-some}
 use Rattle.kinds.specs.declared.Rules.{Rules}
-use Rattle.kinds.specs.Kinds.{quarterHour, isKind, kindRow, unlessExempt, rulesOf, importRules, exportRules, hourAheadRules, wheelRules, differentialFits, bidMwhFits, pendingFits}
-use Rattle.kinds.proofs.ByKind.{by-kind, by-rules, rules-1, rules-2, rules-3, rules-4, rules-5}
+use Rattle.kinds.specs.Kinds.{quarterHour, virtual, isKind, hasOneCurve, kindRow, unlessExempt, rulesOf, importRules, exportRules, hourAheadRules, wheelRules, differentialFits, bidMwhFits, pendingFits}
+use Rattle.kinds.proofs.ByKind.{by-kind, by-rules, rules-1, rules-2, rules-3, rules-4, rules-5, rules-6}
 use Rattle.kinds.proofs.Fits.{pending-range, exempt-range, differential-small}
 use Rattle.bids.specs.Points.{Point, curve, largestMwh, totalMwh, share, mwhAt, Exposure, tried, exposure, wheelExposure}
 use Rattle.bids.specs.Bids.{importBid, exportBid, hourAheadBid, bidMwh, bidRequirement}
@@ -92,13 +92,20 @@ fit-bid kind ms ps d h =
     let s = none-split (pointRows ms ps) (row 8 (not (differentialFits (rulesOf kind) d)) ∷ []) (h .1) in
     (s .0, not-false (differentialFits (rulesOf kind) d) (s .1 .0))
 
--- its kind bids by one curve
-pub one-curve : (kind : ℕ) (ms : List ℕ) (ps : List ℤ) (d : ℕ) → None (bidRows kind ms ps d) → rulesOf kind .intervals ≡ false
+-- its kind bids by one curve: not by four, and not by two sides
+pub one-curve : (kind : ℕ) (ms : List ℕ) (ps : List ℤ) (d : ℕ) → None (bidRows kind ms ps d) → (rulesOf kind .intervals ≡ false) × (rulesOf kind .sides ≡ false)
 unfolding None bidRows
-one-curve kind ms ps d h = h .0
+one-curve kind ms ps d h =
+    let one = not-false (hasOneCurve (rulesOf kind)) (h .0) in
+    let four = rulesOf kind .intervals in
+    let two = rulesOf kind .sides in
+    (not-true four (and-left (not four) (not two) one), not-true two (and-right (not four) (not two) one))
 
 no-quarter : (kind : ℕ) (ms : List ℕ) (ps : List ℤ) (d : ℕ) → None (bidRows kind ms ps d) → kind ≡ quarterHour → ⊥
-no-quarter kind ms ps d h e = never (sym (one-curve kind ms ps d h) ∙ ap (λ (r : Rules). r .intervals) (rules-5 kind e))
+no-quarter kind ms ps d h e = never (sym (one-curve kind ms ps d h .0) ∙ ap (λ (r : Rules). r .intervals) (rules-5 kind e))
+
+no-sides : (kind : ℕ) (ms : List ℕ) (ps : List ℤ) (d : ℕ) → None (bidRows kind ms ps d) → kind ≡ virtual → ⊥
+no-sides kind ms ps d h e = never (sym (one-curve kind ms ps d h .1) ∙ ap (λ (r : Rules). r .sides) (rules-6 kind e))
 
 -- a bid that the table gives no number
 pub bid-stands : (kind : ℕ) (ms : List ℕ) (ps : List ℤ) (d n : ℕ) → n ≡ first (kindRow kind ∷ bidRows kind ms ps d) → n ≡ 0 → None (pointRows ms ps) × (differentialFits (rulesOf kind) d ≡ true)
@@ -211,12 +218,13 @@ bid-bounded kind ms ps d exempt none =
     let f = fit (b .0) in
     let h = differential-small kind d (b .1) in
     let l = curve ms ps in
-    by-kind (λ (z : ℤ). pendingFits (rulesOf kind) z ≡ true) kind _ _ _ _ _ _ (not-false (isKind kind) (none .0))
+    by-kind (λ (z : ℤ). pendingFits (rulesOf kind) z ≡ true) kind _ _ _ _ _ _ _ (not-false (isKind kind) (none .0))
     (λ e. pending-range kind (unlessExempt exempt (importBid l d)) importRules 640000000000 (rules-1 kind e) refl (exempt-range exempt 640000000000 (importBid l d) (omega (arith, import-small f d h))))
     (λ e. pending-range kind (exportBid l d) exportRules 640000000000 (rules-2 kind e) refl (omega (arith, larger-of (pos (exposure l)) (pos (totalMwh l * d)), exposure-small f, total-times-small f d h)))
     (λ e. pending-range kind (hourAheadBid l) hourAheadRules 640000000000 (rules-3 kind e) refl (omega (arith, exposure-small f)))
     (λ e. pending-range kind (wheelExposure l) wheelRules 20000000000 (rules-4 kind e) refl (range-wider (wheel-small f) (omega arith) (omega arith)))
     (λ e. absurd (no-quarter kind ms ps d (none .1) e))
+    (λ e. absurd (no-sides kind ms ps d (none .1) e))
 
 -- 01, 'a book is sound': 'bid MWh is at most 10,000 for kinds 1 and 4 and 640,000 otherwise'
 pub mwh-bounded : (kind : ℕ) (ms : List ℕ) (ps : List ℤ) (d : ℕ) → None (kindRow kind ∷ bidRows kind ms ps d) → bidMwhFits (rulesOf kind) (bidMwh kind (curve ms ps)) ≡ true
@@ -229,3 +237,4 @@ mwh-bounded kind ms ps d none =
     (λ e. le-leb (totalMwh l) 640000 (total-small f))
     (λ e. le-leb (largestMwh l) 10000 (largest-small f))
     (λ e. absurd (no-quarter kind ms ps d (none .1) e))
+    (λ e. absurd (no-sides kind ms ps d (none .1) e))

@@ -31,7 +31,7 @@ hourAheadBid points = pos (exposure points)
 unfoldable pub bidMwh : ℕ → List Point → ℕ
 bidMwh kind points = cond (rulesOf kind .adds) (totalMwh points) (largestMwh points)
 
--- stage 1; a bid of four curves is none of one curve, and its row refuses first (02, order 3)
+-- stage 1; a bid of four curves or of two sides is none of one curve, and its row refuses first (02, orders 3 and 6)
 unfoldable pub bidRequirement : ℕ → List Point → ℕ → Bool → ℤ
 bidRequirement kind points differential exempt =
-    byKind kind (unlessExempt exempt (importBid points differential)) (exportBid points differential) (hourAheadBid points) (wheelExposure points) (pos 0) (pos 0)
+    byKind kind (unlessExempt exempt (importBid points differential)) (exportBid points differential) (hourAheadBid points) (wheelExposure points) (pos 0) (pos 0) (pos 0)

@@ -30,7 +30,7 @@ fn bid_refusal(kind: u64, mwh: &[u64], prices: &[i64], differential: u64) -> u64
     let rules = Kind { number: kind }.rules();
     let last = pick(!rules.differential_fits(differential), 8, 0);
     let below = or_else(points_refusal(mwh, prices), last);
-    let curves = pick(rules.intervals, 5, below);
+    let curves = pick(!rules.has_one_curve(), 5, below);
     pick(!Kind { number: kind }.in_range(), 2, curves)
 }
 
@@ -80,6 +80,7 @@ fn bid_requirement(kind: u64, mwh: &[u64], prices: &[i64], differential: u64, ex
         Kind::WHEEL => wheel_exposure(mwh, prices),
         // It bids by four curves: its row refuses first.
         Kind::QUARTER_HOUR_EXPORT => 0,
+        Kind::VIRTUAL => 0,
         _ => 0,
     }
 }

@@ -13,12 +13,13 @@ use Rattle.refusals.proofs.Laws.{first-append, answered-some}
 use Rattle.messages.specs.declared.types.Message.{Message}
 use Rattle.messages.specs.declared.types.Deed.{Deed}
 use Rattle.messages.specs.declared.types.Deed.the-variants.{Keyed, SetSupport, CloseHour}
-use Rattle.messages.specs.declared.types.Message.the-variants.{Open, Revise, Withdraw, Post, Finish, Bill, Pay, Support, OpenCurves, ReviseCurves, Close}
+use Rattle.messages.specs.declared.types.Message.the-variants.{Open, Revise, Withdraw, Post, Finish, Bill, Pay, Support, OpenCurves, ReviseCurves, Close, OpenSides, ReviseSides, PostSides}
 use Rattle.bids.specs.Rows.{pointRows, bidRows}
 use Rattle.deliveries.specs.Rows.{deliveryRows, billRows}
 use Rattle.keys.specs.Keys.{keyRows}
 use Rattle.intervals.specs.Intervals.{curvesRows}
 use Rattle.closings.specs.Closings.{closeRows}
+use Rattle.virtuals.specs.Virtuals.{sideRows, mwhRows}
 use Rattle.batches.specs.Batches.{batchRows}
 use Rattle.messages.specs.Plan.{keyOf, stageRows, planRows, plan}
 use Rattle.messages.proofs.Fits.{plan-rows-numbered}
@@ -38,7 +39,7 @@ abbrev pub parts : Book → Message → List ℕ → List ℤ → List Row
 parts b m ms ps = row 1 (not (sound b)) ∷ (planRows (lookup b (keyOf m)) m ms ps ++ bookRows b ms (deedOf b m ms ps))
 
 pub table-parts : (b : Book) (m : Message) (ms : List ℕ) (ps : List ℤ) → table b m ms ps ≡ parts b m ms ps
-unfolding table deedOf keyRows pointRows bidRows deliveryRows billRows stageRows curvesRows closeRows batchRows
+unfolding table deedOf keyRows pointRows bidRows deliveryRows billRows stageRows curvesRows closeRows batchRows sideRows mwhRows
 table-parts b (Open o) ms ps = refl
 table-parts b (Revise o) ms ps = refl
 table-parts b (Withdraw k) ms ps = refl
@@ -50,6 +51,9 @@ table-parts b (Support s) ms ps = refl
 table-parts b (OpenCurves c) ms ps = refl
 table-parts b (ReviseCurves c) ms ps = refl
 table-parts b (Close c) ms ps = refl
+table-parts b (OpenSides s) ms ps = refl
+table-parts b (ReviseSides s) ms ps = refl
+table-parts b (PostSides p) ms ps = refl
 
 -- 2 to 13 first: the others are asked where those have passed
 unfoldable pub admitted : Book → List ℕ → Verdict Deed → Verdict Deed

@@ -1,4 +1,4 @@
--- Document 01, 'Turned away, and why', and 02, order 3: the whole table, message by message. 'Checked in this order; the first that applies is given, and only those that concern the message.'
+-- Document 01, 'Turned away, and why', and 02, orders 3 and 6: the whole table, message by message. 'Checked in this order; the first that applies is given, and only those that concern the message.'
 -- Each test stands with what it is about: a kind's in `kinds`, a key's in `keys`, points' in `bids` and `intervals`, a close's in `closings` and `batches`, the totals' in `credit`.
 -- proofs/Verdicts.antt shows (table-parts) that this is row 1, then what a message's plan is refused by (2 to 13, `planRows`, which sees the message and its record), then what the
 -- totals refuse (14 to 16, `creditRows`), or the places (a close's 11, `batchRows`).
@@ -10,18 +10,19 @@ use lib.Dec.{leb, eqb}
 use lib.IntN.{ℤ, pos, _+ℤ_, _-ℤ_}
 use lib.ListN.{length}
 use lib.Signed.{ltZ}
-use Rattle.amounts.specs.Limits.{between, isPointMwh, isQuantity, isPrice, isBill, isSupport}
+use Rattle.amounts.specs.Limits.{between, isPointMwh, isQuantity, isPrice, isDifferential, isBill, isSupport}
 use Rattle.amounts.specs.Lists.{every}
 use Rattle.refusals.specs.Refusals.{Row, row}
-use Rattle.kinds.specs.Kinds.{quarterHour, bidStage, billedStage, isKind, rulesOf, isPath, differentialFits, pricesFit}
+use Rattle.kinds.specs.Kinds.{quarterHour, virtual, bidStage, billedStage, isKind, rulesOf, hasOneCurve, isPath, differentialFits, pricesFit}
 use Rattle.keys.specs.Keys.{isHour}
 use Rattle.intervals.specs.Intervals.{points, countsFit}
 use Rattle.closings.specs.Closings.{eachOnce}
+use Rattle.virtuals.specs.Virtuals.{isSideMwh}
 use Rattle.batches.specs.Batches.{unmatched}
 use Rattle.records.specs.Records.{isFree}
 use Rattle.messages.specs.declared.types.Message.{Message}
-use Rattle.messages.specs.declared.types.Message.the-variants.{Open, Revise, Withdraw, Post, Finish, Bill, Pay, Support, OpenCurves, ReviseCurves, Close}
-use Rattle.messages.specs.Plan.{bidFor}
+use Rattle.messages.specs.declared.types.Message.the-variants.{Open, Revise, Withdraw, Post, Finish, Bill, Pay, Support, OpenCurves, ReviseCurves, Close, OpenSides, ReviseSides, PostSides}
+use Rattle.messages.specs.Plan.{bidFor, zoneKey, sidesFor}
 use Rattle.credit.specs.Credit.{suspended}
 use Rattle.book.specs.Books.{Book, lookup, sound, totals}
 
@@ -37,7 +38,7 @@ table b (Open o) mwhs prices =
     ∷ row 2 (not (isKind (o .key .kind)))
     ∷ row 3 (not (isPath (rulesOf (o .key .kind)) (o .key .path)))
     ∷ row 4 (not (isHour (o .key .hour)))
-    ∷ row 5 (rulesOf (o .key .kind) .intervals)
+    ∷ row 5 (not (hasOneCurve (rulesOf (o .key .kind))))
     ∷ row 5 (not (between 1 64 (length mwhs) && eqb (length mwhs) (length prices)))
     ∷ row 6 (not (every isPointMwh mwhs))
     ∷ row 7 (not (every isPrice prices))
@@ -52,7 +53,7 @@ table b (Revise o) mwhs prices =
     ∷ row 2 (not (isKind (o .key .kind)))
     ∷ row 3 (not (isPath (rulesOf (o .key .kind)) (o .key .path)))
     ∷ row 4 (not (isHour (o .key .hour)))
-    ∷ row 5 (rulesOf (o .key .kind) .intervals)
+    ∷ row 5 (not (hasOneCurve (rulesOf (o .key .kind))))
     ∷ row 5 (not (between 1 64 (length mwhs) && eqb (length mwhs) (length prices)))
     ∷ row 6 (not (every isPointMwh mwhs))
     ∷ row 7 (not (every isPrice prices))
@@ -148,4 +149,41 @@ table b (Close c) paths prices =
     ∷ row 5 (not (eachOnce paths && eqb (length prices) (length paths * 4)))
     ∷ row 7 (not (every isPrice prices))
     ∷ row 11 (unmatched (c .hour) paths (b .records))
+    ∷ []
+-- 02, order 6: the kind is the case's, so 2 never applies; 3 is 'above zone 11', 6 'a side above 10,000', 13 'for either side'
+table b (OpenSides s) mwhs prices =
+    row 1 (not (sound b))
+    ∷ row 2 (not (isKind virtual))
+    ∷ row 3 (not (isPath (rulesOf virtual) (s .zone)))
+    ∷ row 4 (not (isHour (s .hour)))
+    ∷ row 6 (not (isSideMwh (s .load .mwh) && isSideMwh (s .supply .mwh)))
+    ∷ row 8 (not (isDifferential (s .load .differential) && isDifferential (s .supply .differential)))
+    ∷ row 10 (not (isFree (lookup b (zoneKey (s .zone) (s .hour)))))
+    ∷ row 14 (suspended (totals b))
+    ∷ row 15 (totals b .full)
+    ∷ row 16 (ltZ (totals b .support) (totals b .held +ℤ sidesFor s))
+    ∷ []
+table b (ReviseSides s) mwhs prices =
+    row 1 (not (sound b))
+    ∷ row 2 (not (isKind virtual))
+    ∷ row 3 (not (isPath (rulesOf virtual) (s .zone)))
+    ∷ row 4 (not (isHour (s .hour)))
+    ∷ row 6 (not (isSideMwh (s .load .mwh) && isSideMwh (s .supply .mwh)))
+    ∷ row 8 (not (isDifferential (s .load .differential) && isDifferential (s .supply .differential)))
+    ∷ row 11 (isFree (lookup b (zoneKey (s .zone) (s .hour))))
+    ∷ row 12 (not (eqb (lookup b (zoneKey (s .zone) (s .hour)) .stage) bidStage))
+    ∷ row 14 (suspended (totals b))
+    ∷ row 16
+    (ltZ (lookup b (zoneKey (s .zone) (s .hour)) .requirement) (sidesFor s)
+    && ltZ (totals b .support) (totals b .held -ℤ lookup b (zoneKey (s .zone) (s .hour)) .requirement +ℤ sidesFor s))
+    ∷ []
+table b (PostSides p) mwhs prices =
+    row 1 (not (sound b))
+    ∷ row 2 (not (isKind virtual))
+    ∷ row 3 (not (isPath (rulesOf virtual) (p .zone)))
+    ∷ row 4 (not (isHour (p .hour)))
+    ∷ row 6 (not (isSideMwh (p .load) && isSideMwh (p .supply)))
+    ∷ row 11 (isFree (lookup b (zoneKey (p .zone) (p .hour))))
+    ∷ row 12 (not (eqb (lookup b (zoneKey (p .zone) (p .hour)) .stage) bidStage))
+    ∷ row 13 (not (leb (p .load) (lookup b (zoneKey (p .zone) (p .hour)) .mwh) && leb (p .supply) (lookup b (zoneKey (p .zone) (p .hour)) .supply .mwh)))
     ∷ []

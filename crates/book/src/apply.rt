@@ -1,4 +1,4 @@
-// The one entry that takes any message, and the eleven messages.
+// The one entry that takes any message, and the fourteen messages.
 ghost use mathlib.Core.Path.{_≡_};
 ghost use mathlib.Core.List.{[]};
 ghost use Rattle.book.specs.Step.{step};
@@ -16,6 +16,8 @@ use messages::types::Funding;
 use messages::types::Message;
 use messages::types::Opening;
 use messages::types::Posting;
+use messages::types::Sides;
+use messages::types::SidesPosting;
 use refusals::Answer;
 use walk::code;
 use walk::types::Walk;
@@ -143,5 +145,24 @@ impl Book {
         ensures { λ r. ⌜ r ≡ step self (Message.Close closing) (now (paths .entry)) (now (prices .entry)) ⌝ }
     {
         self.apply(Message::Close(closing), paths, prices)
+    }
+
+    // Of two sides (02, order 6).
+    pub fn open_sides(self, sides: Sides) -> Outcome
+        ensures { λ r. ⌜ r ≡ step self (Message.OpenSides sides) [] [] ⌝ }
+    {
+        self.without_points(Message::OpenSides(sides))
+    }
+
+    pub fn revise_sides(self, sides: Sides) -> Outcome
+        ensures { λ r. ⌜ r ≡ step self (Message.ReviseSides sides) [] [] ⌝ }
+    {
+        self.without_points(Message::ReviseSides(sides))
+    }
+
+    pub fn post_sides(self, posting: SidesPosting) -> Outcome
+        ensures { λ r. ⌜ r ≡ step self (Message.PostSides posting) [] [] ⌝ }
+    {
+        self.without_points(Message::PostSides(posting))
     }
 }

@@ -1,9 +1,10 @@
-// The eleven messages as one: the key that any of them has, and what it asks of the record under it.
+// The fourteen messages as one: the key that any of them has, and what it asks of the record under it.
 ghost use mathlib.Core.Path.{_≡_};
 ghost use Rattle.messages.specs.Plan.{keyOf, plan, planned};
 use keys::Key;
 use messages::types::Message;
 use messages::types::Planned;
+use messages::zone_key;
 use records::types::Record;
 
 // A support change and a close have no key; that of a free place stands for it, and no record is under it.
@@ -22,6 +23,9 @@ pub fn key_of(message: Message) -> Key
         Message::OpenCurves(curves) => curves.key,
         Message::ReviseCurves(curves) => curves.key,
         Message::Close(_) => Record::blank().key,
+        Message::OpenSides(sides) => zone_key(sides.zone, sides.hour),
+        Message::ReviseSides(sides) => zone_key(sides.zone, sides.hour),
+        Message::PostSides(posting) => zone_key(posting.zone, posting.hour),
     }
 }
 
@@ -40,5 +44,8 @@ pub fn plan_of(message: Message, old: Record, mwh: &[u64], prices: &[i64]) -> Pl
         Message::OpenCurves(curves) => openings::open_curves(curves, old, mwh, prices),
         Message::ReviseCurves(curves) => openings::revise_curves(curves, old, mwh, prices),
         Message::Close(closing) => moves::close(closing, mwh, prices),
+        Message::OpenSides(sides) => openings::open_sides(sides, old),
+        Message::ReviseSides(sides) => openings::revise_sides(sides, old),
+        Message::PostSides(posting) => moves::post_sides(posting, old),
     }
 }

@@ -17,8 +17,8 @@ use Rattle.refusals.specs.declared.Figure.the-variants.{Cents, Refused}
 use Rattle.refusals.specs.Figures.{figure}
 use Rattle.refusals.proofs.Laws.{answered-some, judge-none}
 use Rattle.kinds.specs.declared.Rules.{Rules}
-use Rattle.kinds.specs.Kinds.{wheel, isKind, kindRow, byKind, rulesOf, importRules, exportRules, hourAheadRules, wheelRules, quarterHourRules, bidMwhFits, pendingFits}
-use Rattle.kinds.proofs.ByKind.{by-kind, rules-1, rules-2, rules-3, rules-4, rules-5}
+use Rattle.kinds.specs.Kinds.{wheel, isKind, kindRow, byKind, rulesOf, importRules, exportRules, hourAheadRules, wheelRules, quarterHourRules, virtualRules, bidMwhFits, pendingFits}
+use Rattle.kinds.proofs.ByKind.{by-kind, rules-1, rules-2, rules-3, rules-4, rules-5, rules-6}
 use Rattle.kinds.proofs.Fits.{range-test, pending-range, pending-bid, pending-wheel, exempt-range}
 use Rattle.formulas.specs.Stages.{importPosted, balancing, importFinished, exportPosted, exportFinished, hourAheadFinished, wheelPosted, wheelFinished, postedRequirement, finishedRequirement}
 use Rattle.deliveries.specs.Rows.{postedRows, finishedRows, billRows}
@@ -119,12 +119,13 @@ pub posted-bounded : (kind differential : ℕ) (exempt : Bool) (schedule : ℕ) 
 unfolding None postedRequirement
 posted-bounded kind differential exempt schedule price second h fits =
     let g = posting kind differential schedule price second (h .1) in
-    by-kind (λ (z : ℤ). pendingFits (rulesOf kind) z ≡ true) kind _ _ _ _ _ _ (not-false (isKind kind) (h .0))
+    by-kind (λ (z : ℤ). pendingFits (rulesOf kind) z ≡ true) kind _ _ _ _ _ _ _ (not-false (isKind kind) (h .0))
     (λ e. pending-range kind _ importRules 640000000000 (rules-1 kind e) refl (exempt-range exempt _ _ (import-posted-range schedule differential (g .schedule) (g .differential))))
     (λ e. pending-range kind _ exportRules 640000000000 (rules-2 kind e) refl (export-posted-range schedule price differential (g .schedule) (g .prices .first) (g .differential)))
     (λ e. pending-range kind (pos 0) hourAheadRules 640000000000 (rules-3 kind e) refl (range-wider nothing (omega arith) (omega arith)))
     (λ e. pending-range kind _ wheelRules 20000000000 (rules-4 kind e) refl (wheel-posted-range schedule price second (wheel-mwh kind schedule e fits) (g .prices .first) (g .prices .second)))
     (λ e. pending-range kind (pos 0) quarterHourRules 640000000000 (rules-5 kind e) refl (range-wider nothing (omega arith) (omega arith)))
+    (λ e. pending-range kind (pos 0) virtualRules 640000000000 (rules-6 kind e) refl (range-wider nothing (omega arith) (omega arith)))
 
 -- 01, 'a book is sound': a finished requirement is within 1,300,000,000,000 of zero
 pub finished-bounded : (kind : ℕ) (exempt : Bool) (schedule : ℕ) (dayAhead posted : ℤ) (actual : ℕ) (price second : ℤ) → None (kindRow kind ∷ finishedRows kind schedule dayAhead posted actual price second) → isFinished (finishedRequirement kind exempt schedule dayAhead posted actual price second) ≡ true
@@ -133,12 +134,13 @@ finished-bounded kind exempt schedule dayAhead posted actual price second h =
     let g = finish kind schedule dayAhead posted actual price second (h .1) in
     let bid = pending-bid kind posted (g .pending) in
     range-test 1300000000000 1300000000000 _
-    (by-kind (Range 1300000000000 1300000000000) kind _ _ _ _ _ _ (not-false (isKind kind) (h .0))
+    (by-kind (Range 1300000000000 1300000000000) kind _ _ _ _ _ _ _ (not-false (isKind kind) (h .0))
     (λ e. range-wider (exempt-range exempt _ _ (import-finished-range schedule dayAhead actual price (g .schedule) (g .kept) (g .actual) (g .prices .first))) (omega arith) (omega arith))
     (λ e. range-wider (export-finished-range posted schedule actual price bid (g .schedule) (g .actual) (g .prices .first)) (omega arith) (omega arith))
     (λ e. range-wider (hour-ahead-finished-range actual price (g .actual) (g .prices .first)) (omega arith) (omega arith))
     (λ e. wheel-finished-range posted schedule actual price second (pending-wheel kind posted e (g .pending)) (g .schedule) (g .actual) (g .prices .first) (g .prices .second))
-    (λ e. range-wider (hour-ahead-finished-range actual price (g .actual) (g .prices .first)) (omega arith) (omega arith)))
+    (λ e. range-wider (hour-ahead-finished-range actual price (g .actual) (g .prices .first)) (omega arith) (omega arith))
+    (λ e. range-wider nothing (omega arith) (omega arith)))
 
 -- and the range is no wider than it must be: a wheel of 640,000 MWh above its schedule is at its end
 pub finished-met : None (kindRow wheel ∷ finishedRows wheel 0 (pos 0) (pos 20000000000) 640000 (pos 1000000) (negℤ (pos 1000000))) × (finishedRequirement wheel false 0 (pos 0) (pos 20000000000) 640000 (pos 1000000) (negℤ (pos 1000000)) ≡ pos 1300000000000)

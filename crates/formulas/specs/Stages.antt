@@ -49,16 +49,17 @@ wheelFinished postedCents schedule actual withdrawal injection =
 
 -- ---- by kind
 
--- stage 2, to which no Hour-Ahead export is posted; the prices are the message's first and second
+-- stage 2, to which no Hour-Ahead export is posted, and two sides by a message of their own (02, order 6); the prices are the message's first and second
 unfoldable pub postedRequirement : ℕ → ℕ → Bool → ℕ → ℤ → ℤ → ℤ
 postedRequirement kind differential exempt schedule price second =
-    byKind kind (unlessExempt exempt (importPosted schedule differential)) (exportPosted schedule price differential) (pos 0) (wheelPosted schedule price second) (pos 0) (pos 0)
+    byKind kind (unlessExempt exempt (importPosted schedule differential)) (exportPosted schedule price differential) (pos 0) (wheelPosted schedule price second) (pos 0) (pos 0) (pos 0)
 
--- stage 3; `postedCents` is the requirement that the record holds at stage 2, `dayAhead` the price that it keeps
+-- stage 3, which two sides never reach; `postedCents` is the requirement that the record holds at stage 2, `dayAhead` the price that it keeps
 unfoldable pub finishedRequirement : ℕ → Bool → ℕ → ℤ → ℤ → ℕ → ℤ → ℤ → ℤ
 finishedRequirement kind exempt schedule dayAhead postedCents actual price second =
     byKind kind (unlessExempt exempt (importFinished schedule dayAhead actual price)) (exportFinished postedCents schedule actual price)
     (hourAheadFinished actual price)
     (wheelFinished postedCents schedule actual price second)
     (hourAheadFinished actual price)
+    (pos 0)
     (pos 0)

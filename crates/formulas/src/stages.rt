@@ -123,10 +123,11 @@ fn posted_requirement(
     match kind {
         Kind::IMPORT => unless_exempt(exempt, import_posted(schedule, differential)),
         Kind::EXPORT => export_posted(schedule, price, differential),
-        // Neither this nor a quarter-hour export is ever posted: its row refuses first.
+        // Neither this nor a quarter-hour export is ever posted, and two sides not by this: its row refuses first.
         Kind::HOUR_AHEAD_EXPORT => 0,
         Kind::WHEEL => wheel_posted(schedule, price, second),
         Kind::QUARTER_HOUR_EXPORT => 0,
+        Kind::VIRTUAL => 0,
         _ => 0,
     }
 }
@@ -150,6 +151,7 @@ fn finished_requirement(
         Kind::HOUR_AHEAD_EXPORT => hour_ahead_finished(actual, price),
         Kind::WHEEL => wheel_finished(posted_cents, schedule, actual, price, second),
         Kind::QUARTER_HOUR_EXPORT => hour_ahead_finished(actual, price),
+        Kind::VIRTUAL => 0,
         _ => 0,
     }
 }

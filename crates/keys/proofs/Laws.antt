@@ -4,6 +4,7 @@ use mathlib.Core.Path.{_≡_, refl, sym}
 use mathlib.Core.Bool.{Bool, true, false, _&&_}
 use Prim.Native.Nat.{_≤_}
 use lib.Dec.{leb, eqb}
+use native.Mathlib.Omega.{arith}
 use borrow.Author.Tests.{leb-true, eqb-true, eq-eqb}
 use Rattle.amounts.specs.Limits.{between}
 use Rattle.refusals.proofs.Laws.{and-left, and-right}
@@ -59,6 +60,7 @@ module _ (k : Key) (h : keyFits k ≡ true) where
       let below : between 1 999 (k .path) ≡ true → k .path ≤ 999 = λ e. leb-true (k .path) 999 (and-right (leb 1 (k .path)) (leb (k .path) 999) e) in
       by-rules (k .kind) (λ (rules : Rules). isPath rules (k .path) ≡ true → k .path ≤ 999) key-kind (λ e. below) (λ e. below) (λ e. below) (λ e. below)
       (λ e. below)
+      (λ e h. omega (arith, leb-true (k .path) 11 (and-right (leb 1 (k .path)) (leb (k .path) 11) h)))
 
   pub key-bounds : KeyBounds k
   key-bounds =

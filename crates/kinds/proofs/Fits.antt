@@ -36,6 +36,7 @@ module _ (kind : ℕ) (z : ℤ) where
       all-rules (λ (r : Rules). pendingFits r z ≡ true → Range 0 640000000000 z) (range-true 0 640000000000 z) (range-true 0 640000000000 z) (range-true 0 640000000000 z)
       (λ h. range-wider (range-true 0 20000000000 z h) (omega arith) (omega arith))
       (range-true 0 640000000000 z)
+      (range-true 0 640000000000 z)
       (λ h. range-wider (range-true 0 0 z h) (omega arith) (omega arith))
       kind
 
@@ -56,6 +57,7 @@ differential-small kind d =
     all-rules (λ (r : Rules). differentialFits r d ≡ true → d ≤ 1000000) (leb-true d 1000000) (leb-true d 1000000) (λ h. omega (arith, leb-true d 0 h))
     (λ h. omega (arith, leb-true d 0 h))
     (λ h. omega (arith, leb-true d 0 h))
+    (leb-true d 1000000)
     (λ h. omega (arith, leb-true d 0 h))
     kind
 

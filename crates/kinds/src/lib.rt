@@ -1,6 +1,6 @@
 // What a kind decides, at every stage: one table, a row a kind. The numbers of kinds and stages.
 ghost use mathlib.Core.Path.{_≡_};
-ghost use Rattle.kinds.specs.Kinds.{isKind, isPath, hasStage, differentialFits, bidMwhFits, pendingFits, pricesFit, unlessExempt, rulesOf};
+ghost use Rattle.kinds.specs.Kinds.{isKind, isPath, hasStage, hasOneCurve, isScheduled, differentialFits, bidMwhFits, pendingFits, pricesFit, unlessExempt, rulesOf};
 use amounts::Amount;
 use amounts::Differential;
 use amounts::Price;
@@ -45,6 +45,8 @@ pub struct Rules {
     pub billed: u64,
     // A bid has four interval curves: it is pending at requirement 0 until its hour is closed, and its record keeps four MWh sums.
     pub intervals: bool,
+    // A bid has two sides, load and supply: `mwh` and `differential` are each side's, and it is posted by a message of its own.
+    pub sides: bool,
 }
 
 pub struct Kind {
@@ -62,10 +64,15 @@ impl Kind {
     // Hour-Ahead, with four interval curves.
     pub const QUARTER_HOUR_EXPORT: u64 = 5;
 
-    pub const LAST: u64 = 5;
+    // Virtual load and supply of a load zone.
+    pub const VIRTUAL: u64 = 6;
+
+    pub const LAST: u64 = 6;
 
     pub const MAX_PATH: u64 = 999;
-    // A curve's largest point counts, so its limit is a point's.
+    // Zones A to K.
+    pub const MAX_ZONE: u64 = 11;
+    // A curve's largest point counts, so its limit is a point's; a side's is the same.
     pub const MAX_LARGEST: u64 = 10_000;
 
     pub fn in_range(self) -> bool
@@ -93,6 +100,7 @@ impl Kind {
                 finished: Stage::POSTED,
                 billed: Stage::FINISHED,
                 intervals: false,
+                sides: false,
             },
             Kind::EXPORT => Rules {
                 paths: Kind::MAX_PATH,
@@ -107,6 +115,7 @@ impl Kind {
                 finished: Stage::POSTED,
                 billed: Stage::FINISHED,
                 intervals: false,
+                sides: false,
             },
             Kind::HOUR_AHEAD_EXPORT => Rules {
                 paths: Kind::MAX_PATH,
@@ -121,6 +130,7 @@ impl Kind {
                 finished: Stage::BID,
                 billed: Stage::FINISHED,
                 intervals: false,
+                sides: false,
             },
             Kind::WHEEL => Rules {
                 paths: Kind::MAX_PATH,
@@ -135,6 +145,7 @@ impl Kind {
                 finished: Stage::POSTED,
                 billed: Stage::FINISHED,
                 intervals: false,
+                sides: false,
             },
             Kind::QUARTER_HOUR_EXPORT => Rules {
                 paths: Kind::MAX_PATH,
@@ -149,6 +160,22 @@ impl Kind {
                 finished: Stage::POSTED,
                 billed: Stage::FINISHED,
                 intervals: true,
+                sides: false,
+            },
+            Kind::VIRTUAL => Rules {
+                paths: Kind::MAX_ZONE,
+                adds: false,
+                mwh: Kind::MAX_LARGEST,
+                cents: Amount::MAX_BID,
+                differential: Differential::MAX,
+                exempts: false,
+                prices: 1,
+                dayahead: false,
+                posted: Rules::NEVER,
+                finished: Rules::NEVER,
+                billed: Stage::POSTED,
+                intervals: false,
+                sides: true,
             },
             _ => Rules {
                 paths: 0,
@@ -163,6 +190,7 @@ impl Kind {
                 finished: Rules::NEVER,
                 billed: Rules::NEVER,
                 intervals: false,
+                sides: false,
             },
         }
     }
@@ -186,6 +214,20 @@ impl Rules {
             & (!(stage == Stage::POSTED)
                 | ((self.finished == Stage::POSTED) | (self.billed == Stage::POSTED)))
             & (!(stage == Stage::FINISHED) | (self.billed == Stage::FINISHED))
+    }
+
+    // A bid has one curve of points.
+    pub fn has_one_curve(self) -> bool
+        ensures { λ r. ⌜ r ≡ hasOneCurve self ⌝ }
+    {
+        !self.intervals & !self.sides
+    }
+
+    // A schedule is posted of it.
+    pub fn is_scheduled(self) -> bool
+        ensures { λ r. ⌜ r ≡ isScheduled self ⌝ }
+    {
+        !(self.posted == Rules::NEVER) | self.sides
     }
 
     pub fn differential_fits(self, differential: u64) -> bool

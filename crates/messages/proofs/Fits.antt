@@ -1,7 +1,7 @@
 -- Each accepted message asks for a change that fits the record under its key, and leaves a record that keeps every clause of soundness.
 -- Assumes nothing.
-use mathlib.Core.Path.{_≡_, refl, subst}
-use mathlib.Core.Bool.{Bool, true, false, cond, _&&_, _||_}
+use mathlib.Core.Path.{_≡_, refl, ap, subst}
+use mathlib.Core.Bool.{Bool, true, false, not, cond, _&&_, _||_}
 use mathlib.Core.List.{List}
 use Prim.Native.Nat.{ℕ, _≤_}
 use lib.Dec.{leb, eqb}
@@ -10,23 +10,30 @@ use borrow.Author.Tests.{eqb-true, not-false}
 use Rattle.amounts.specs.Limits.{isPrice, isNil, isBill, isSupport}
 use Rattle.refusals.specs.Refusals.{None, accept}
 use Rattle.refusals.proofs.Laws.{and-left, and-both, judge-accept}
-use Rattle.kinds.specs.Kinds.{bidStage, postedStage, finishedStage, billedStage, never as unposted, hasStage, bidMwhFits, differentialFits, pendingFits, rulesOf}
+use Rattle.kinds.specs.Kinds.{virtual, virtualRules, bidStage, postedStage, finishedStage, billedStage, hasStage, isScheduled, byKind, bidMwhFits, differentialFits, pendingFits, rulesOf}
 use Rattle.refusals.specs.declared.Bid.{Bid}
 use Rattle.bids.proofs.Curves.{bid-bounded, mwh-bounded, fit-bid, one-curve}
 use Rattle.intervals.specs.Intervals.{intervalsOf}
 use Rattle.intervals.proofs.Laws.{curves-kind, curves-fit}
 use Rattle.closings.proofs.Laws.{close-fits}
+use Rattle.virtuals.specs.Virtuals.{virtualBid, virtualPosted}
+use Rattle.virtuals.proofs.Laws.{fits as side-fits, bid-range, posted-range}
+use Rattle.amounts.specs.Amount.{Range}
+use Rattle.amounts.proofs.Signed.{range-wider}
+use Rattle.kinds.proofs.ByKind.{rules-6}
+use Rattle.kinds.proofs.Fits.{pending-range}
+use native.Mathlib.Omega.{arith}
 use Rattle.formulas.proofs.StageLaws.{posted-bounded, finished-bounded}
 use Rattle.keys.specs.declared.Key.{Key}
 use Rattle.keys.specs.Keys.{keyFits}
 use Rattle.records.specs.declared.types.Record.{Record}
-use Rattle.records.specs.Records.{pendingRecord, isFree, implies, requirementFits, okRecord}
-use Rattle.messages.specs.Plan.{Message, Opening, Posting, Finishing, Curves, Deed, Open, Revise, Withdraw, Post, Finish, Bill, Pay, Support, OpenCurves, ReviseCurves, Close, Add, AddPending, Rebid, Advance, Remove, Keyed, SetSupport, CloseHour, openedRecord, postedRecord, laterRecord, bidFor, postedFor, finishedFor, intervalsFor, keyOf, opens, deedFor, planRows, plan}
+use Rattle.records.specs.Records.{pendingRecord, sidesRecord, sidesPosted, isFree, implies, requirementFits, okRecord}
+use Rattle.messages.specs.Plan.{Message, Opening, Posting, Finishing, Curves, Deed, Open, Revise, Withdraw, Post, Finish, Bill, Pay, Support, OpenCurves, ReviseCurves, Close, OpenSides, ReviseSides, PostSides, Sides, SidesPosting, zoneKey, postedSide, sidesFor, sidesPostedFor, Add, AddPending, Rebid, Advance, Remove, Keyed, SetSupport, CloseHour, openedRecord, postedRecord, laterRecord, bidFor, postedFor, finishedFor, intervalsFor, keyOf, opens, deedFor, planRows, plan}
 use Rattle.keys.proofs.Laws.{key-kind}
-use Rattle.records.proofs.Made.{bid-ok, pending-ok, advanced-ok}
+use Rattle.records.proofs.Made.{bid-ok, pending-ok, advanced-ok, Sided, sides-ok, sides-posted-ok}
 use Rattle.messages.proofs.Stages.{finished-next, billed-next}
-use Rattle.messages.proofs.Passed.{BidPassed, Stands, PostPassed, FinishPassed, open-passed, revise-passed, stage-passed, post-passed, finish-passed, bill-passed, CurvesPassed, open-curves-passed, revise-curves-passed}
-use Rattle.messages.proofs.Formulas.{bid-passed-is, posted-passed-is, finished-passed-is, intervals-passed-is}
+use Rattle.messages.proofs.Passed.{BidPassed, Stands, PostPassed, FinishPassed, open-passed, revise-passed, stage-passed, post-passed, finish-passed, bill-passed, CurvesPassed, open-curves-passed, revise-curves-passed, SidesPassed, open-sides-passed, revise-sides-passed, PostSidesPassed, post-sides-passed}
+use Rattle.messages.proofs.Formulas.{bid-passed-is, posted-passed-is, finished-passed-is, intervals-passed-is, sides-passed-is, posted-sides-passed-is}
 pub use Rattle.messages.proofs.Tables.{plan-rows-numbered}
 pub use Rattle.messages.proofs.Passed.{Under, under-blank, under-at}
 
@@ -110,7 +117,7 @@ bid-fine o ms ps h =
     (opened-fine o _ (h .key) (mwh-bounded (o .key .kind) ms ps (o .differential) (h .rows))
     (fit-bid (o .key .kind) ms ps (o .differential) (h .rows .1) .1)
     (bid-bounded (o .key .kind) ms ps (o .differential) (o .exempt) (h .rows))
-    (one-curve (o .key .kind) ms ps (o .differential) (h .rows .1)))
+    (one-curve (o .key .kind) ms ps (o .differential) (h .rows .1) .0))
 
 -- 02, order 3
 curves-fine : (c : Curves) (ms : List ℕ) (ps : List ℤ) → CurvesPassed c ms ps → Fine (c .key) (pendingRecord (c .key) (intervalsFor c ms ps))
@@ -161,7 +168,7 @@ later-fine : (k : Key) (old : Record) (stage : ℕ) (cents : ℤ) → Stands k o
 later-fine k old stage cents s next first late used requirement =
     let c = s .clauses in
     let rules = rulesOf (old .key .kind) in
-    let schedule = late-schedule (leb (old .schedule) (old .mwh)) (eqb (old .stage) bidStage) (eqb (rules .posted) unposted) (eqb (old .schedule) 0) (c .schedule) in
+    let schedule = late-schedule (leb (old .schedule) (old .mwh)) (eqb (old .stage) bidStage) (not (isScheduled rules)) (eqb (old .schedule) 0) (c .schedule) in
     let price = late-price (isPrice (old .price)) (rules .dayahead) (leb postedStage (old .stage)) (isNil (old .price)) (c .dayAhead) in
     record {
       own = s .own;
@@ -173,13 +180,51 @@ finished-fine : (old : Record) (f : Finishing) → FinishPassed old f → Fine (
 unfolding isFree
 finished-fine old f h =
     later-fine (f .key) old finishedStage (finishedFor old f) (h .stands)
-    (finished-next (old .key .kind) (key-kind (old .key) (h .stands .clauses .key))) refl refl refl
+    (finished-next (old .key .kind) (key-kind (old .key) (h .stands .clauses .key)) (h .finishes)) refl refl refl
     (rw (finished-passed-is old f h)
     (and-both _ true (finished-bounded (old .key .kind) (old .exempt) (old .schedule) (old .price) (old .requirement) (f .actual) (f .price) (f .second) (h .rows)) refl))
 
 billed-fine : (k : Key) (old : Record) (cents : ℤ) → Stands k old → isBill cents ≡ true → Fine k (laterRecord old billedStage cents)
 unfolding isFree
 billed-fine k old cents s h = later-fine k old billedStage cents s (billed-next (rulesOf (old .key .kind))) refl refl refl h
+
+-- 02, order 6: what kind 6 decides, as its records use it
+sided : Sided (rulesOf virtual)
+unfolding rulesOf byKind
+sided = record { two = refl; one-curve = refl; no-price = refl }
+
+virtual-posted : hasStage (rulesOf virtual) postedStage ≡ true
+unfolding rulesOf byKind
+virtual-posted = refl
+
+virtual-pending : (z : ℤ) → Range 0 10000000000 z → pendingFits (rulesOf virtual) z ≡ true
+virtual-pending z r = pending-range virtual z virtualRules 640000000000 (rules-6 virtual refl) refl (range-wider r (omega arith) (omega arith))
+
+sides-fine : (s : Sides) → SidesPassed s → Fine (zoneKey (s .zone) (s .hour)) (sidesRecord (zoneKey (s .zone) (s .hour)) (s .load) (s .supply) (sidesFor s))
+unfolding isFree rulesOf byKind
+sides-fine s h =
+    let f = side-fits (s .load) (s .supply) (h .rows) in
+    rw (sides-passed-is s h)
+    (record {
+      own = refl;
+      used = refl;
+      ok = sides-ok (zoneKey (s .zone) (s .hour)) (s .load) (s .supply) (virtualBid (s .load) (s .supply)) (h .key) sided (f .0 .mwh) (f .0 .differential) (f .1 .mwh) (f .1 .differential)
+          (virtual-pending (virtualBid (s .load) (s .supply)) (bid-range (s .load) (s .supply) (h .rows)));
+    })
+
+posted-sides-fine : (old : Record) (p : SidesPosting) → PostSidesPassed old p → Fine (zoneKey (p .zone) (p .hour)) (sidesPosted old (p .load) (p .supply) (sidesPostedFor old p))
+unfolding isFree
+posted-sides-fine old p h =
+    let load = postedSide (p .load) (old .differential) in
+    let supply = postedSide (p .supply) (old .supply .differential) in
+    let own : old .key .kind ≡ virtual = ap (λ (k : Key). k .kind) (h .stands .own) in
+    rw (posted-sides-passed-is old p h)
+    (record {
+      own = h .stands .own;
+      used = refl;
+      ok = sides-posted-ok old (p .load) (p .supply) (virtualPosted load supply) (h .stands .clauses) (rw own sided) (rw own virtual-posted) (h .kept) (h .load) (h .supply)
+          (rw own (virtual-pending (virtualPosted load supply) (posted-range load supply (h .rows))));
+    })
 
 -- ---- each accepted message
 
@@ -213,6 +258,13 @@ deed-fits old (ReviseCurves c) ms ps u h =
     let a = revise-curves-passed old c ms ps u h in
     record { later = refl; used = a .1 .stands .used; was = refl; stage = eqb-true (old .stage) bidStage (a .1 .stage); fine = curves-fine c ms ps (a .0); bid = refl }
 deed-fits old (Close c) ms ps u h = record { is = refl; hour-high = close-fits (c .hour) ms ps h .hour-high }
+deed-fits old (OpenSides s) ms ps u h =
+    let a = open-sides-passed old s ms ps h in record { begins = refl; free = a .1; fine = sides-fine s (a .0); bid = refl }
+deed-fits old (ReviseSides s) ms ps u h =
+    let a = revise-sides-passed old s ms ps u h in
+    record { later = refl; used = a .1 .stands .used; was = refl; stage = eqb-true (old .stage) bidStage (a .1 .stage); fine = sides-fine s (a .0); bid = refl }
+deed-fits old (PostSides p) ms ps u h =
+    let a = post-sides-passed old p ms ps u h in record { later = refl; used = a .stands .used; fine = posted-sides-fine old p a }
 
 pub fits : (old : Record) (m : Message) (ms : List ℕ) (ps : List ℤ) (d : Deed) → Under (keyOf m) old → plan old m ms ps ≡ accept d → Fits old m d
 unfolding plan

@@ -19,9 +19,11 @@ use Rattle.bids.specs.Entries.{bidVerdict}
 use Rattle.formulas.specs.Entries.{postedVerdict, finishedVerdict}
 use Rattle.intervals.specs.Intervals.{intervalsOf}
 use Rattle.intervals.proofs.Laws.{intervals-in}
+use Rattle.virtuals.specs.Virtuals.{virtualBid, virtualPosted}
+use Rattle.virtuals.proofs.Laws.{bid-accepted, posted-accepted}
 use Rattle.records.specs.declared.types.Record.{Record}
-use Rattle.messages.specs.Plan.{Opening, Posting, Finishing, Curves, Open, Revise, Post, Finish, OpenCurves, ReviseCurves, bidFor, postedFor, finishedFor, intervalsFor, planRows}
-use Rattle.messages.proofs.Passed.{Under, BidPassed, open-passed, revise-passed, PostPassed, post-passed, FinishPassed, finish-passed, CurvesPassed, open-curves-passed, revise-curves-passed}
+use Rattle.messages.specs.Plan.{Opening, Posting, Finishing, Curves, Sides, SidesPosting, OpenSides, ReviseSides, PostSides, sidesFor, sidesPostedFor, postedSide, zoneKey, Open, Revise, Post, Finish, OpenCurves, ReviseCurves, bidFor, postedFor, finishedFor, intervalsFor, planRows}
+use Rattle.messages.proofs.Passed.{Under, BidPassed, open-passed, revise-passed, PostPassed, post-passed, FinishPassed, finish-passed, CurvesPassed, open-curves-passed, revise-curves-passed, SidesPassed, open-sides-passed, revise-sides-passed, PostSidesPassed, post-sides-passed}
 
 -- bid MWh and requirement by 01's formulas
 abbrev pub bidOf01 : Opening → List ℕ → List ℤ → Bid
@@ -75,3 +77,23 @@ intervals-is old c ms ps h = intervals-passed-is c ms ps (open-curves-passed old
 
 pub revised-intervals-is : (old : Record) (c : Curves) (ms : List ℕ) (ps : List ℤ) → Under (c .key) old → None (planRows old (ReviseCurves c) ms ps) → intervalsFor c ms ps ≡ intervalsOf (c .counts) ms
 revised-intervals-is old c ms ps u h = intervals-passed-is c ms ps (revise-curves-passed old c ms ps u h .0)
+
+-- 02, order 6: the requirement of two sides
+pub sides-passed-is : (s : Sides) → SidesPassed s → sidesFor s ≡ virtualBid (s .load) (s .supply)
+unfolding sidesFor
+sides-passed-is s h = ap centsOf (bid-accepted (s .load) (s .supply) (h .rows))
+
+pub sides-is : (old : Record) (s : Sides) (ms : List ℕ) (ps : List ℤ) → None (planRows old (OpenSides s) ms ps) → sidesFor s ≡ virtualBid (s .load) (s .supply)
+sides-is old s ms ps h = sides-passed-is s (open-sides-passed old s ms ps h .0)
+
+pub revised-sides-is : (old : Record) (s : Sides) (ms : List ℕ) (ps : List ℤ) → Under (zoneKey (s .zone) (s .hour)) old → None (planRows old (ReviseSides s) ms ps) → sidesFor s ≡ virtualBid (s .load) (s .supply)
+revised-sides-is old s ms ps u h = sides-passed-is s (revise-sides-passed old s ms ps u h .0)
+
+pub posted-sides-passed-is : (old : Record) (p : SidesPosting) → PostSidesPassed old p
+    → sidesPostedFor old p ≡ virtualPosted (postedSide (p .load) (old .differential)) (postedSide (p .supply) (old .supply .differential))
+unfolding sidesPostedFor
+posted-sides-passed-is old p h = ap centsOf (posted-accepted (postedSide (p .load) (old .differential)) (postedSide (p .supply) (old .supply .differential)) (h .rows))
+
+pub posted-sides-is : (old : Record) (p : SidesPosting) (ms : List ℕ) (ps : List ℤ) → Under (zoneKey (p .zone) (p .hour)) old → None (planRows old (PostSides p) ms ps)
+    → sidesPostedFor old p ≡ virtualPosted (postedSide (p .load) (old .differential)) (postedSide (p .supply) (old .supply .differential))
+posted-sides-is old p ms ps u h = posted-sides-passed-is old p (post-sides-passed old p ms ps u h)

@@ -16,22 +16,24 @@ module _ (kind : ℕ) (k : isKind kind ≡ true) where
   pub posted-next : eqb (rulesOf kind .posted) never ≡ false → hasStage (rulesOf kind) postedStage ≡ true
   posted-next =
       by-rules kind (λ (rules : Rules). eqb (rules .posted) never ≡ false → hasStage rules postedStage ≡ true) k
-      (λ e h. refl) (λ e h. refl) (λ e h. sym h) (λ e h. refl) (λ e h. refl)
+      (λ e h. refl) (λ e h. refl) (λ e h. sym h) (λ e h. refl) (λ e h. refl) (λ e h. refl)
 
-  pub finished-next : hasStage (rulesOf kind) finishedStage ≡ true
-  finished-next = by-rules kind (λ (rules : Rules). hasStage rules finishedStage ≡ true) k (λ e. refl) (λ e. refl) (λ e. refl) (λ e. refl) (λ e. refl)
+  pub finished-next : eqb (rulesOf kind .finished) never ≡ false → hasStage (rulesOf kind) finishedStage ≡ true
+  finished-next =
+      by-rules kind (λ (rules : Rules). eqb (rules .finished) never ≡ false → hasStage rules finishedStage ≡ true) k
+      (λ e h. refl) (λ e h. refl) (λ e h. refl) (λ e h. refl) (λ e h. refl) (λ e h. sym h)
 
   pub finished-from : rulesOf kind .finished ≤ postedStage
   finished-from =
       by-rules kind (λ (rules : Rules). rules .finished ≤ postedStage) k
-      (λ e. omega arith) (λ e. omega arith) (λ e. omega arith) (λ e. omega arith) (λ e. omega arith)
+      (λ e. omega arith) (λ e. omega arith) (λ e. omega arith) (λ e. omega arith) (λ e. omega arith) (λ e. omega arith)
 
 pub billed-next : (rules : Rules) → hasStage rules billedStage ≡ true
 billed-next rules = refl
 
 -- no kind's bid MWh are more than a quantity's
 mwh-most : (kind : ℕ) → rulesOf kind .mwh ≤ 640000
-mwh-most = all-rules (λ (rules : Rules). rules .mwh ≤ 640000) (omega arith) (omega arith) (omega arith) (omega arith) (omega arith) (omega arith)
+mwh-most = all-rules (λ (rules : Rules). rules .mwh ≤ 640000) (omega arith) (omega arith) (omega arith) (omega arith) (omega arith) (omega arith) (omega arith)
 
 pub mwh-quantity : (kind mwh : ℕ) → bidMwhFits (rulesOf kind) mwh ≡ true → isQuantity mwh ≡ true
 mwh-quantity kind mwh h = le-leb mwh 640000 (omega (arith, mwh-most kind, leb-true mwh (rulesOf kind .mwh) h))

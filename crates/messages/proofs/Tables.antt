@@ -1,7 +1,7 @@
 -- The table of each message: no row has the number 0, and its parts stand one below the other.
 -- Assumes nothing.
 use mathlib.Core.Path.{_≡_, refl, sym, ap, _∙_}
-use mathlib.Core.Bool.{Bool, true, false, not, cond}
+use mathlib.Core.Bool.{Bool, true, false, not, cond, _&&_}
 use mathlib.Core.List.{List, [], _∷_, _++_}
 use Prim.Native.Nat.{ℕ}
 use lib.Dec.{leb, eqb}
@@ -20,11 +20,14 @@ use Rattle.deliveries.proofs.Numbered.{delivery-rows-numbered, bill-rows-number
 use Rattle.intervals.specs.Intervals.{curvesRows, curvesVerdict, curvesAnswer, curvesRefusalOf}
 use Rattle.intervals.proofs.Laws.{curves-rows-numbered, curves-refusal-is}
 use Rattle.closings.proofs.Laws.{close-rows-numbered}
+use Rattle.virtuals.specs.Virtuals.{sideRows, mwhRows, bidVerdict as sidesVerdict}
+use Rattle.virtuals.proofs.Laws.{side-rows-numbered, mwh-rows-numbered, bid-number}
+use Rattle.refusals.specs.Figures.{figure, refusalOf}
 use Rattle.keys.specs.declared.Key.{Key}
 use Rattle.keys.specs.Keys.{keyRows}
 use Rattle.records.specs.declared.types.Record.{Record}
 use Rattle.records.specs.Records.{isFree}
-use Rattle.messages.specs.Plan.{Message, Opening, Curves, Open, Revise, Withdraw, Post, Finish, Bill, Pay, Support, OpenCurves, ReviseCurves, Close, stageRows, planRows}
+use Rattle.messages.specs.Plan.{Message, Opening, Curves, Open, Revise, Withdraw, Post, Finish, Bill, Pay, Support, OpenCurves, ReviseCurves, Close, OpenSides, ReviseSides, PostSides, Sides, SidesPosting, zoneKey, stageRows, planRows}
 
 -- ---- no row has the number 0
 key-rows-numbered : (k : Key) → numbered (keyRows k) ≡ true
@@ -73,6 +76,20 @@ plan-rows-numbered old (ReviseCurves c) ms ps =
     numbered-append (keyRows (c .key)) _ (key-rows-numbered (c .key))
     (numbered-append (curvesRows (c .key .kind) (c .counts) ms ps) _ (curves-rows-numbered (c .key .kind) (c .counts) ms ps) (stage-rows-numbered old (eqb (old .stage) bidStage)))
 plan-rows-numbered old (Close c) ms ps = close-rows-numbered (c .hour) ms ps
+plan-rows-numbered old (OpenSides s) ms ps =
+    let key = zoneKey (s .zone) (s .hour) in
+    numbered-append (keyRows key) _ (key-rows-numbered key)
+    (numbered-append (sideRows (s .load) (s .supply)) _ (side-rows-numbered (s .load) (s .supply)) (one-numbered 10 (not (isFree old)) refl))
+plan-rows-numbered old (ReviseSides s) ms ps =
+    let key = zoneKey (s .zone) (s .hour) in
+    numbered-append (keyRows key) _ (key-rows-numbered key)
+    (numbered-append (sideRows (s .load) (s .supply)) _ (side-rows-numbered (s .load) (s .supply)) (stage-rows-numbered old (eqb (old .stage) bidStage)))
+plan-rows-numbered old (PostSides p) ms ps =
+    let key = zoneKey (p .zone) (p .hour) in
+    let stage = eqb (old .stage) bidStage in
+    numbered-append (keyRows key) _ (key-rows-numbered key)
+    (numbered-append (mwhRows (p .load) (p .supply)) _ (mwh-rows-numbered (p .load) (p .supply))
+    (numbered-append (stageRows old stage) _ (stage-rows-numbered old stage) (one-numbered 13 (not (leb (p .load) (old .mwh) && leb (p .supply) (old .supply .mwh))) refl)))
 
 -- ---- one table below another, by what each gives
 pub key-above : (k : Key) (rest : List Row) → first (keyRows k ++ rest) ≡ orElse (first (keyRows k)) (first rest)
@@ -147,3 +164,26 @@ open-curves-table old c ms ps =
 
 pub revise-curves-table : (old : Record) (c : Curves) (ms : List ℕ) (ps : List ℤ) → orElse (first (keyRows (c .key))) (orElse (curvesNumber c ms ps) (first (stageRows old (eqb (old .stage) bidStage)))) ≡ first (planRows old (ReviseCurves c) ms ps)
 revise-curves-table old c ms ps = sym (curves-above c ms ps (stageRows old (eqb (old .stage) bidStage)))
+
+-- ---- two sides (02, order 6)
+abbrev pub sidesNumber : Sides → ℕ
+sidesNumber s = refusalOf (figure (sidesVerdict (s .load) (s .supply)))
+
+sides-above : (s : Sides) (rest : List Row) → first (keyRows (zoneKey (s .zone) (s .hour)) ++ (sideRows (s .load) (s .supply) ++ rest)) ≡ orElse (first (keyRows (zoneKey (s .zone) (s .hour)))) (orElse (sidesNumber s) (first rest))
+sides-above s rest =
+    let key = zoneKey (s .zone) (s .hour) in
+    let rows = sideRows (s .load) (s .supply) in
+    key-above key (rows ++ rest)
+    ∙ ap (orElse (first (keyRows key))) (first-append rows rest (side-rows-numbered (s .load) (s .supply)))
+    ∙ ap (λ (n : ℕ). orElse (first (keyRows key)) (orElse n (first rest))) (sym (bid-number (s .load) (s .supply)))
+
+pub open-sides-table : (old : Record) (s : Sides) (ms : List ℕ) (ps : List ℤ) → orElse (first (keyRows (zoneKey (s .zone) (s .hour)))) (orElse (sidesNumber s) (cond (not (isFree old)) 10 0)) ≡ first (planRows old (OpenSides s) ms ps)
+open-sides-table old s ms ps =
+    let free = row 10 (not (isFree old)) ∷ [] in
+    sym (sides-above s free ∙ ap (λ (n : ℕ). orElse (first (keyRows (zoneKey (s .zone) (s .hour)))) (orElse (sidesNumber s) n)) (last-row 10 (not (isFree old))))
+
+pub revise-sides-table : (old : Record) (s : Sides) (ms : List ℕ) (ps : List ℤ) → orElse (first (keyRows (zoneKey (s .zone) (s .hour)))) (orElse (sidesNumber s) (first (stageRows old (eqb (old .stage) bidStage)))) ≡ first (planRows old (ReviseSides s) ms ps)
+revise-sides-table old s ms ps = sym (sides-above s (stageRows old (eqb (old .stage) bidStage)))
+
+pub mwh-above : (load supply : ℕ) (rest : List Row) → first (mwhRows load supply ++ rest) ≡ orElse (first (mwhRows load supply)) (first rest)
+mwh-above load supply rest = first-append (mwhRows load supply) rest (mwh-rows-numbered load supply)

@@ -1,9 +1,11 @@
 // What is common to the messages' plans.
 ghost use mathlib.Core.Path.{_≡_};
 ghost use Rattle.refusals.specs.Refusals.{first, answered};
-ghost use Rattle.messages.specs.Plan.{stageRows, planned};
+ghost use Rattle.messages.specs.Plan.{zoneKey, stageRows, planned};
 use crate::types::Deed;
 use crate::types::Planned;
+use keys::Key;
+use kinds::Kind;
 use records::types::Record;
 use refusals::pick;
 
@@ -15,6 +17,17 @@ pub fn answer(number: u64, deed: Deed) -> Planned
         Planned::Asks(deed)
     } else {
         Planned::Refused(number)
+    }
+}
+
+// The key of a virtual bid (02, order 6).
+pub fn zone_key(zone: u64, hour: u64) -> Key
+    ensures { λ r. ⌜ r ≡ zoneKey zone hour ⌝ }
+{
+    Key {
+        kind: Kind::VIRTUAL,
+        path: zone,
+        hour,
     }
 }
 

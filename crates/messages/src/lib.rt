@@ -4,3 +4,4 @@ pub mod types;
 
 pub use answers::answer;
 pub use answers::stage_refusal;
+pub use answers::zone_key;

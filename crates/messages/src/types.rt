@@ -1,7 +1,8 @@
-// The eleven messages, and what a message asks for.
+// The fourteen messages, and what a message asks for.
 use intervals::types::Counts;
 use keys::Key;
 use records::types::Record;
+use virtuals::Side;
 
 // Open and revise; the points stand beside it in two lent lists.
 pub struct Opening {
@@ -45,6 +46,22 @@ pub struct Closing {
     pub hour: u64,
 }
 
+// Open and revise of a virtual bid (02, order 6): both sides of a load zone and an hour. Its kind is the case's.
+pub struct Sides {
+    pub zone: u64,
+    pub hour: u64,
+    pub load: Side,
+    pub supply: Side,
+}
+
+// What was posted of a virtual bid, in MWh for each side.
+pub struct SidesPosting {
+    pub zone: u64,
+    pub hour: u64,
+    pub load: u64,
+    pub supply: u64,
+}
+
 // Each message is one case with its own set of values.
 pub enum Message {
     Open(Opening),
@@ -58,6 +75,9 @@ pub enum Message {
     OpenCurves(Curves),
     ReviseCurves(Curves),
     Close(Closing),
+    OpenSides(Sides),
+    ReviseSides(Sides),
+    PostSides(SidesPosting),
 }
 
 // What a message on a transaction does to the places.

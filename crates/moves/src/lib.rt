@@ -4,6 +4,7 @@ mod closes;
 mod finishes;
 mod frees;
 mod posts;
+mod sides;
 mod supports;
 
 pub use bills::bill;
@@ -12,4 +13,5 @@ pub use finishes::finish;
 pub use frees::pay;
 pub use frees::withdraw;
 pub use posts::post;
+pub use sides::post_sides;
 pub use supports::support;

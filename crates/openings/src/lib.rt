@@ -1,5 +1,6 @@
-// What an open and a revise, of one curve or of four, ask of the record under their key, or refusals 2 to 12. `old` is that record, blank where the key is not open.
+// What an open and a revise, of one curve or of four or of two sides, ask of the record under their key, or refusals 2 to 12. `old` is that record, blank where the key is not open.
 ghost use mathlib.Core.Path.{_≡_};
+ghost use mathlib.Core.List.{[]};
 ghost use Rattle.messages.specs.Plan.{openedRecord, plan, planned};
 use kinds::Kind;
 use kinds::Stage;
@@ -11,6 +12,8 @@ use messages::types::Deed;
 use messages::types::Message;
 use messages::types::Opening;
 use messages::types::Planned;
+use messages::types::Sides;
+use messages::zone_key;
 use records::types::Record;
 use refusals::Bid;
 use refusals::or_else;
@@ -103,4 +106,34 @@ pub fn revise_curves(curves: Curves, old: Record, mwh: &[u64], prices: &[i64]) -
             Record::pending(curves.key, sums.intervals()),
         )),
     )
+}
+
+// Of two sides (02, order 6).
+pub fn open_sides(sides: Sides, old: Record) -> Planned
+    ensures { λ r. ⌜ r ≡ planned (plan old (Message.OpenSides sides) [] []) ⌝ }
+{
+    let key = zone_key(sides.zone, sides.hour);
+    let figure = virtuals::bid(sides.load, sides.supply);
+    let number = or_else(
+        key.refusal(),
+        or_else(figure.refusal(), pick(!old.is_free(), 10, 0)),
+    );
+    let made = Record::sides(key, sides.load, sides.supply, figure.cents());
+    answer(number, Deed::Keyed(Change::Add(made)))
+}
+
+pub fn revise_sides(sides: Sides, old: Record) -> Planned
+    ensures { λ r. ⌜ r ≡ planned (plan old (Message.ReviseSides sides) [] []) ⌝ }
+{
+    let key = zone_key(sides.zone, sides.hour);
+    let figure = virtuals::bid(sides.load, sides.supply);
+    let number = or_else(
+        key.refusal(),
+        or_else(
+            figure.refusal(),
+            stage_refusal(old, old.stage == Stage::BID),
+        ),
+    );
+    let made = Record::sides(key, sides.load, sides.supply, figure.cents());
+    answer(number, Deed::Keyed(Change::Rebid(old.requirement, made)))
 }

@@ -7,7 +7,7 @@ use Rattle.refusals.proofs.Laws.{never, and-left, and-right}
 use Rattle.kinds.specs.declared.Rules.{Rules}
 use Rattle.kinds.specs.Kinds.{hasStage, bidMwhFits, differentialFits, rulesOf}
 use Rattle.keys.specs.Keys.{keyFits}
-use Rattle.records.specs.Records.{Record, implies, scheduleFits, dayAheadFits, exemptFits, requirementFits, quartersFit, keeps, okRecord}
+use Rattle.records.specs.Records.{Record, implies, scheduleFits, dayAheadFits, exemptFits, requirementFits, quartersFit, sidesFit, keeps, okRecord}
 
 -- ---- tests
 pub either : (a b : Bool) → (a || b) ≡ true → (a ≡ true) ⊎ (b ≡ true)
@@ -33,6 +33,7 @@ pub record Clauses (r : Record) : Type 0 where
   pub exempt : exemptFits (rulesOf (r .key .kind)) r ≡ true
   pub requirement : requirementFits (rulesOf (r .key .kind)) (r .stage) (r .requirement) ≡ true
   pub quarters : quartersFit (rulesOf (r .key .kind)) r ≡ true
+  pub sides : sidesFit (rulesOf (r .key .kind)) r ≡ true
 
 module _ (r : Record) where
   abbrev own : Rules
@@ -56,10 +57,14 @@ module _ (r : Record) where
   abbrev to-requirement : Bool
   to-requirement = to-exempt && requirementFits own (r .stage) (r .requirement)
 
+  abbrev to-quarters : Bool
+  to-quarters = to-requirement && quartersFit own r
+
   pub clauses : okRecord r ≡ true → Clauses r
   unfolding okRecord keeps
   clauses h =
-      let h8 = and-right (keyFits (r .key)) (to-requirement && quartersFit own r) h in
+      let h9 = and-right (keyFits (r .key)) (to-quarters && sidesFit own r) h in
+      let h8 = and-left to-quarters (sidesFit own r) h9 in
       let h7 = and-left to-requirement (quartersFit own r) h8 in
       let h6 = and-left to-exempt (requirementFits own (r .stage) (r .requirement)) h7 in
       let h5 = and-left to-price (exemptFits own r) h6 in
@@ -67,7 +72,7 @@ module _ (r : Record) where
       let h3 = and-left to-schedule (differentialFits own (r .differential)) h4 in
       let h2 = and-left to-mwh (scheduleFits own r) h3 in
       record {
-        key = and-left (keyFits (r .key)) (to-requirement && quartersFit own r) h;
+        key = and-left (keyFits (r .key)) (to-quarters && sidesFit own r) h;
         stage = and-left (hasStage own (r .stage)) (bidMwhFits own (r .mwh)) h2;
         mwh = and-right (hasStage own (r .stage)) (bidMwhFits own (r .mwh)) h2;
         schedule = and-right to-mwh (scheduleFits own r) h3;
@@ -76,8 +81,9 @@ module _ (r : Record) where
         exempt = and-right to-price (exemptFits own r) h6;
         requirement = and-right to-exempt (requirementFits own (r .stage) (r .requirement)) h7;
         quarters = and-right to-requirement (quartersFit own r) h8;
+        sides = and-right to-quarters (sidesFit own r) h9;
       }
 
   pub sound : Clauses r → okRecord r ≡ true
   unfolding okRecord keeps
-  sound c = rw (c .key, c .stage, c .mwh, c .schedule, c .differential, c .dayAhead, c .exempt, c .requirement, c .quarters)
+  sound c = rw (c .key, c .stage, c .mwh, c .schedule, c .differential, c .dayAhead, c .exempt, c .requirement, c .quarters, c .sides)

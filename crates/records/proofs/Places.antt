@@ -18,6 +18,8 @@ use Rattle.keys.specs.Keys.{sameKey}
 use Rattle.keys.proofs.Laws.{by-test, sameKey-eq, sameKey-refl}
 use Rattle.intervals.specs.Intervals.{isNone}
 use Rattle.intervals.proofs.Laws.{none-eq}
+use Rattle.virtuals.specs.Virtuals.{isNoSupply}
+use Rattle.virtuals.proofs.Laws.{no-supply-eq}
 use Rattle.records.specs.Records.{Record, blank, isBlank, isFree, at, okRecord, okPlace}
 use Rattle.records.proofs.Clauses.{either, or-right, clauses}
 
@@ -53,10 +55,14 @@ module _ (r : Record) where
   abbrev to-requirement : Bool
   to-requirement = to-price && isNil (r .requirement)
 
+  abbrev to-intervals : Bool
+  to-intervals = to-requirement && isNone (r .intervals)
+
   pub blank-eq : isBlank r ≡ true → r ≡ blank
   unfolding isBlank
   blank-eq h =
-      let h9 = and-left to-requirement (isNone (r .intervals)) h in
+      let h10 = and-left to-intervals (isNoSupply (r .supply)) h in
+      let h9 = and-left to-requirement (isNone (r .intervals)) h10 in
       let h8 = and-left to-price (isNil (r .requirement)) h9 in
       let h7 = and-left to-schedule (isNil (r .price)) h8 in
       let h6 = and-left to-exempt (eqb (r .schedule) 0) h7 in
@@ -75,7 +81,8 @@ module _ (r : Record) where
       let schedule = eqb-true (r .schedule) 0 (and-right to-exempt (eqb (r .schedule) 0) h7) in
       let price = nil-eq (r .price) (and-right to-schedule (isNil (r .price)) h8) in
       let requirement = nil-eq (r .requirement) (and-right to-price (isNil (r .requirement)) h9) in
-      let intervals = none-eq (r .intervals) (and-right to-requirement (isNone (r .intervals)) h) in
+      let intervals = none-eq (r .intervals) (and-right to-requirement (isNone (r .intervals)) h10) in
+      let supply = no-supply-eq (r .supply) (and-right to-intervals (isNoSupply (r .supply)) h) in
       λ i. record {
         key = record { kind = kind i; path = path i; hour = hour i };
         stage = stage i;
@@ -86,6 +93,7 @@ module _ (r : Record) where
         price = price i;
         requirement = requirement i;
         intervals = intervals i;
+        supply = supply i;
       }
 
 pub blank-blank : isBlank blank ≡ true

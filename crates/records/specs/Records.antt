@@ -1,4 +1,4 @@
--- Document 01, 'Numbers', and 02, order 3: one record, and when it is sound.
+-- Document 01, 'Numbers', and 02, orders 3 and 6: one record, and when it is sound.
 -- Assumes nothing.
 use mathlib.Core.Bool.{Bool, false, _&&_, _||_, not}
 use Prim.Native.Nat.{ℕ}
@@ -6,11 +6,14 @@ use lib.Dec.{leb, eqb}
 use lib.IntN.{ℤ, pos}
 use Rattle.amounts.specs.Limits.{isPrice, isNil, isBill, isFinished}
 use Rattle.kinds.specs.declared.Rules.{Rules}
-use Rattle.kinds.specs.Kinds.{quarterHour, hasStage, bidMwhFits, differentialFits, pendingFits, rulesOf, bidStage, postedStage, finishedStage, billedStage, never}
+use Rattle.kinds.specs.Kinds.{quarterHour, hasStage, isScheduled, bidMwhFits, differentialFits, pendingFits, rulesOf, bidStage, postedStage, finishedStage, billedStage}
 use Rattle.keys.specs.declared.Key.{Key}
 use Rattle.keys.specs.Keys.{sameKey, keyFits}
 use Rattle.intervals.specs.declared.types.Intervals.{Intervals}
 use Rattle.intervals.specs.Intervals.{noIntervals, intervalsFit, isNone}
+use Rattle.virtuals.specs.declared.Side.{Side}
+use Rattle.virtuals.specs.declared.Supply.{Supply}
+use Rattle.virtuals.specs.Virtuals.{noSupply, isNoSupply, supplyFits}
 pub use Rattle.records.specs.declared.types.Record.{Record}
 
 -- 01: 'a free place is zero throughout'
@@ -26,6 +29,7 @@ blank =
       price = pos 0;
       requirement = pos 0;
       intervals = noIntervals;
+      supply = noSupply;
     }
 
 -- 01: 'Open makes stage 1'; what a bid does not set is a free place's
@@ -41,6 +45,7 @@ bidRecord key mwh differential exempt requirement =
       price = blank .price;
       requirement = requirement;
       intervals = blank .intervals;
+      supply = blank .supply;
     }
 
 -- 02, order 3: 'On opening a bid is pending (stage 1), requirement 0'; 'It carries no differential or exempt mark; these and bid MWh are 0'
@@ -56,6 +61,7 @@ pendingRecord key sums =
       price = blank .price;
       requirement = blank .requirement;
       intervals = sums;
+      supply = blank .supply;
     }
 
 -- taken on to a later stage. 01: 'Fields that a message doesn't set keep their values'
@@ -71,13 +77,42 @@ advanced r stage schedule price requirement =
       price = price;
       requirement = requirement;
       intervals = r .intervals;
+      supply = r .supply;
     }
+
+-- 02, order 6: 'both sides in one key': a record with its supply side; the load side has the fields that other kinds have too
+abbrev pub supplied : Record → Supply → Record
+supplied s supply =
+    record {
+      key = s .key;
+      stage = s .stage;
+      mwh = s .mwh;
+      differential = s .differential;
+      exempt = s .exempt;
+      schedule = s .schedule;
+      price = s .price;
+      requirement = s .requirement;
+      intervals = s .intervals;
+      supply = supply;
+    }
+
+-- 'Open and revise carry MWh and differential per side'
+abbrev pub sidesRecord : Key → Side → Side → ℤ → Record
+sidesRecord key load supply requirement =
+    supplied (bidRecord key (load .mwh) (load .differential) false requirement)
+    (record { mwh = supply .mwh; differential = supply .differential; schedule = blank .supply .schedule })
+
+-- 'post MWh per side'
+abbrev pub sidesPosted : Record → ℕ → ℕ → ℤ → Record
+sidesPosted r load supply requirement =
+    supplied (advanced r postedStage load (r .price) requirement)
+    (record { mwh = r .supply .mwh; differential = r .supply .differential; schedule = supply })
 
 unfoldable pub isBlank : Record → Bool
 isBlank r =
     eqb (r .key .kind) 0 && eqb (r .key .path) 0 && eqb (r .key .hour) 0 && eqb (r .stage) 0 && eqb (r .mwh) 0
     && eqb (r .differential) 0 && not (r .exempt) && eqb (r .schedule) 0 && isNil (r .price) && isNil (r .requirement)
-    && isNone (r .intervals)
+    && isNone (r .intervals) && isNoSupply (r .supply)
 
 -- 01: 'stages are 1 to 4', so a place at stage 0 holds no transaction
 unfoldable pub isFree : Record → Bool
@@ -98,7 +133,7 @@ implies a b = not a || b
 
 -- 'schedule is at most bid MWh and 0 at stage 1 and for kind 3', which is never posted
 abbrev pub scheduleFits : Rules → Record → Bool
-scheduleFits rules r = leb (r .schedule) (r .mwh) && implies (eqb (r .stage) bidStage || eqb (rules .posted) never) (eqb (r .schedule) 0)
+scheduleFits rules r = leb (r .schedule) (r .mwh) && implies (eqb (r .stage) bidStage || not (isScheduled rules)) (eqb (r .schedule) 0)
 
 -- 'the Day-Ahead price is 0 except for kind 1 from stage 2'
 abbrev pub dayAheadFits : Rules → Record → Bool
@@ -119,11 +154,17 @@ abbrev pub quartersFit : Rules → Record → Bool
 quartersFit rules r =
     (rules .intervals && intervalsFit (r .intervals) || isNone (r .intervals)) && implies (rules .intervals && eqb (r .stage) bidStage) (isNil (r .requirement))
 
+-- 02, order 6: a supply side, which other kinds have not; posted sides are 0 at stage 1
+abbrev pub sidesFit : Rules → Record → Bool
+sidesFit rules r =
+    (rules .sides && supplyFits (r .supply) || isNoSupply (r .supply)) && implies (eqb (r .stage) bidStage) (eqb (r .supply .schedule) 0)
+
 -- every clause but the key's, by the rules of its kind
 unfoldable pub keeps : Rules → Record → Bool
 keeps rules r =
     hasStage rules (r .stage) && bidMwhFits rules (r .mwh) && scheduleFits rules r && differentialFits rules (r .differential)
     && dayAheadFits rules r && exemptFits rules r && requirementFits rules (r .stage) (r .requirement) && quartersFit rules r
+    && sidesFit rules r
 
 -- an open record that keeps every clause
 unfoldable pub okRecord : Record → Bool

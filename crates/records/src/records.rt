@@ -1,8 +1,8 @@
 // One record: how it is made, and the tests, straight-line expressions, clause by clause as document 01 lists them.
 ghost use mathlib.Core.Path.{_≡_};
 ghost use Rattle.kinds.specs.Kinds.{rulesOf};
-ghost use Rattle.records.specs.Records.{blank, bidRecord, pendingRecord, advanced, isBlank, isFree, at, isPending};
-ghost use Rattle.records.specs.Records.{scheduleFits, dayAheadFits, exemptFits, requirementFits, quartersFit, keeps, okRecord, okPlace};
+ghost use Rattle.records.specs.Records.{blank, bidRecord, pendingRecord, sidesRecord, advanced, sidesPosted, isBlank, isFree, at, isPending};
+ghost use Rattle.records.specs.Records.{scheduleFits, dayAheadFits, exemptFits, requirementFits, quartersFit, sidesFit, keeps, okRecord, okPlace};
 use crate::types::Record;
 use amounts::Amount;
 use amounts::Price;
@@ -11,6 +11,8 @@ use keys::Key;
 use kinds::Kind;
 use kinds::Rules;
 use kinds::Stage;
+use virtuals::Side;
+use virtuals::Supply;
 
 fn requirement_fits(rules: Rules, stage: u64, cents: i64) -> bool
     ensures { λ r. ⌜ r ≡ requirementFits rules stage cents ⌝ }
@@ -44,6 +46,11 @@ impl Record {
                 third: 0,
                 fourth: 0,
             },
+            supply: Supply {
+                mwh: 0,
+                differential: 0,
+                schedule: 0,
+            },
         }
     }
 
@@ -72,6 +79,20 @@ impl Record {
         opened
     }
 
+    // A virtual bid: its load side in the fields of other bids, its supply side beside them.
+    pub fn sides(key: Key, load: Side, supply: Side, requirement: i64) -> Self
+        ensures { λ r. ⌜ r ≡ sidesRecord key load supply requirement ⌝ }
+    {
+        let side = Supply {
+            mwh: supply.mwh,
+            differential: supply.differential,
+            schedule: 0,
+        };
+        let mut made = Record::bid(key, load.mwh, load.differential, false, requirement);
+        made.supply = side;
+        made
+    }
+
     // Taken on to a later stage, which sets no other field.
     pub fn advanced(self, stage: u64, schedule: u64, price: i64, requirement: i64) -> Self
         ensures { λ r. ⌜ r ≡ advanced self stage schedule price requirement ⌝ }
@@ -81,6 +102,18 @@ impl Record {
         next.schedule = schedule;
         next.price = price;
         next.requirement = requirement;
+        next
+    }
+
+    // A virtual bid once posted: the MWh of each side.
+    pub fn sides_posted(self, load: u64, supply: u64, requirement: i64) -> Self
+        ensures { λ r. ⌜ r ≡ sidesPosted self load supply requirement ⌝ }
+    {
+        let mut next = self;
+        next.stage = Stage::POSTED;
+        next.schedule = load;
+        next.requirement = requirement;
+        next.supply.schedule = supply;
         next
     }
 
@@ -98,6 +131,7 @@ impl Record {
             & ((0 <= self.price) & (self.price <= 0))
             & ((0 <= self.requirement) & (self.requirement <= 0))
             & self.intervals.is_none()
+            & self.supply.is_none()
     }
 
     pub fn is_free(self) -> bool
@@ -127,8 +161,7 @@ impl Record {
         ensures { λ r. ⌜ r ≡ scheduleFits rules self ⌝ }
     {
         (self.schedule <= self.mwh)
-            & (!((self.stage == Stage::BID) | (rules.posted == Rules::NEVER))
-                | (self.schedule == 0))
+            & (!((self.stage == Stage::BID) | !rules.is_scheduled()) | (self.schedule == 0))
     }
 
     fn day_ahead_fits(self, rules: Rules) -> bool
@@ -157,6 +190,15 @@ impl Record {
                 }.is_nil())
     }
 
+    // A supply side where the kind has two, and none of it posted at stage 1.
+    fn sides_fit(self, rules: Rules) -> bool
+        ensures { λ r. ⌜ r ≡ sidesFit rules self ⌝ }
+    {
+        let side = self.supply;
+        ((rules.sides & side.in_range()) | side.is_none())
+            & (!(self.stage == Stage::BID) | (side.schedule == 0))
+    }
+
     // Every clause of soundness but the key's.
     fn keeps(self, rules: Rules) -> bool
         ensures { λ r. ⌜ r ≡ keeps rules self ⌝ }
@@ -169,6 +211,7 @@ impl Record {
             & self.exempt_fits(rules)
             & requirement_fits(rules, self.stage, self.requirement)
             & self.quarters_fit(rules)
+            & self.sides_fit(rules)
     }
 
     fn keeps_row_of(self, kind: u64) -> bool
@@ -193,6 +236,7 @@ impl Record {
             Kind::HOUR_AHEAD_EXPORT => self.keeps_row_of(Kind::HOUR_AHEAD_EXPORT),
             Kind::WHEEL => self.keeps_row_of(Kind::WHEEL),
             Kind::QUARTER_HOUR_EXPORT => self.keeps_row_of(Kind::QUARTER_HOUR_EXPORT),
+            Kind::VIRTUAL => self.keeps_row_of(Kind::VIRTUAL),
             _ => false,
         }
     }

@@ -1,6 +1,7 @@
 // A transaction's record.
 use intervals::types::Intervals;
 use keys::Key;
+use virtuals::Supply;
 
 // One place of the book. A free place is zero throughout.
 pub struct Record {
@@ -16,4 +17,6 @@ pub struct Record {
     pub requirement: i64,
     // The four MWh sums of a fifteen-minute bid; other kinds have none.
     pub intervals: Intervals,
+    // The supply side of a virtual bid, whose load side has the fields above; other kinds have none.
+    pub supply: Supply,
 }

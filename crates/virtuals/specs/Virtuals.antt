@@ -4,17 +4,30 @@ use mathlib.Core.Path.{_≡_}
 use mathlib.Core.Bool.{Bool, cond, not, _&&_}
 use mathlib.Core.List.{List, [], _∷_}
 use Prim.Native.Nat.{ℕ, _-_, _*_, _≤_}
-use lib.Dec.{leb, ltb}
+use lib.Dec.{leb, ltb, eqb}
 use lib.IntN.{ℤ, pos}
 use lib.Signed.{_≤ℤ_}
 use Rattle.amounts.specs.Amount.{Max}
 use Rattle.amounts.specs.Limits.{isDifferential}
 use Rattle.refusals.specs.Refusals.{Row, row, Verdict, judge}
 pub use Rattle.virtuals.specs.declared.Side.{Side}
+-- ---- what a record keeps of the supply side; the load side's stand in the fields that other kinds have too
+
+pub use Rattle.virtuals.specs.declared.Supply.{Supply}
+
+abbrev pub noSupply : Supply
+noSupply = record { mwh = 0; differential = 0; schedule = 0 }
+
+abbrev pub isNoSupply : Supply → Bool
+isNoSupply s = eqb (s .mwh) 0 && eqb (s .differential) 0 && eqb (s .schedule) 0
 
 -- 'Each side's MWh is at most 10,000'
 abbrev pub isSideMwh : ℕ → Bool
 isSideMwh mwh = leb mwh 10000
+
+-- a supply side that is kept: in range, and 'posted sides can't exceed bid sides'
+abbrev pub supplyFits : Supply → Bool
+supplyFits s = isSideMwh (s .mwh) && isDifferential (s .differential) && leb (s .schedule) (s .mwh)
 
 -- 6 'a quantity out of range', of either side; 8 'differential out of range', of either
 unfoldable pub sideRows : Side → Side → List Row
@@ -22,6 +35,10 @@ sideRows load supply =
     row 6 (not (isSideMwh (load .mwh) && isSideMwh (supply .mwh)))
     ∷ row 8 (not (isDifferential (load .differential) && isDifferential (supply .differential)))
     ∷ []
+
+-- of a post, which carries MWh alone: 6
+unfoldable pub mwhRows : ℕ → ℕ → List Row
+mwhRows load supply = row 6 (not (isSideMwh load && isSideMwh supply)) ∷ []
 
 -- 'while bid, the requirement is the greater of load MWh x load differential and supply MWh x supply differential' (001, 26.4.2.6: 'until such time as those Bids have been evaluated by SCUC, only the greater of ..')
 unfoldable pub virtualBid : Side → Side → ℤ

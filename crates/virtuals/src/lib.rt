@@ -6,7 +6,7 @@ ghost use lib.IntN.{pos};
 ghost use Rattle.amounts.specs.Limits.{isDifferential};
 ghost use Rattle.refusals.specs.Refusals.{first, None};
 ghost use Rattle.refusals.specs.Figures.{figure};
-ghost use Rattle.virtuals.specs.Virtuals.{isSideMwh, sideRows, virtualBid, virtualPosted, bidVerdict, postedVerdict};
+ghost use Rattle.virtuals.specs.Virtuals.{isSideMwh, isNoSupply, supplyFits, sideRows, mwhRows, virtualBid, virtualPosted, bidVerdict, postedVerdict};
 use amounts::Differential;
 use refusals::Figure;
 use refusals::pick;
@@ -33,6 +33,29 @@ impl Side {
     }
 }
 
+// What a record keeps of its supply side: MWh and differential as bid, and the MWh that were posted.
+pub struct Supply {
+    pub mwh: u64,
+    pub differential: u64,
+    pub schedule: u64,
+}
+
+impl Supply {
+    pub fn in_range(self) -> bool
+        ensures { λ r. ⌜ r ≡ supplyFits self ⌝ }
+    {
+        (self.mwh <= Side::MAX_MWH)
+            & (self.differential <= Differential::MAX)
+            & (self.schedule <= self.mwh)
+    }
+
+    pub fn is_none(self) -> bool
+        ensures { λ r. ⌜ r ≡ isNoSupply self ⌝ }
+    {
+        (self.mwh == 0) & (self.differential == 0) & (self.schedule == 0)
+    }
+}
+
 // Refusals 6 and 8, of either side; 0 is none.
 pub fn sides_refusal(load: Side, supply: Side) -> u64
     ensures { λ r. ⌜ r ≡ first (sideRows load supply) ⌝ }
@@ -41,6 +64,14 @@ pub fn sides_refusal(load: Side, supply: Side) -> u64
     let below = pick(!differentials, 8, 0);
     let quantities = load.mwh_fits() & supply.mwh_fits();
     pick(!quantities, 6, below)
+}
+
+// Refusal 6 of a post's MWh, of either side.
+pub fn mwh_refusal(load: u64, supply: u64) -> u64
+    ensures { λ r. ⌜ r ≡ first (mwhRows load supply) ⌝ }
+{
+    let fits = (load <= Side::MAX_MWH) & (supply <= Side::MAX_MWH);
+    pick(!fits, 6, 0)
 }
 
 fn cents(mwh: u64, differential: u64) -> i64

@@ -45,6 +45,24 @@ enum-told-2 c = search needs
 blank-requires-2 : tie.Need-blank-requires-2
 blank-requires-2 c κs = tt
 
+enum-known-message-10 : tie.Need-enum-known-message-10
+enum-known-message-10 c = search needs
+
+zone-key-requires : tie.Need-zone-key-requires
+zone-key-requires c κs = tt
+
+enum-known-message-11 : tie.Need-enum-known-message-11
+enum-known-message-11 c = search needs
+
+zone-key-requires-2 : tie.Need-zone-key-requires-2
+zone-key-requires-2 c κs = tt
+
+enum-known-message-12 : tie.Need-enum-known-message-12
+enum-known-message-12 c = search needs
+
+zone-key-requires-3 : tie.Need-zone-key-requires-3
+zone-key-requires-3 c κs = tt
+
 returns : tie.Need-returns
 returns c = ap keyOf (sym (c .before .before .message .given .1))
 
@@ -78,6 +96,15 @@ returns-10 c = ap keyOf (sym (c .before .before .message9 .given .1))
 returns-11 : tie.Need-returns-11
 returns-11 c = ap (λ (r : Record). r .key) (c .before .blank2 .ensures) ∙ ap keyOf (sym (c .before .before .enum-told2 .given .1))
 
+returns-12 : tie.Need-returns-12
+returns-12 c = c .zone-key .ensures ∙ ap keyOf (sym (c .before .before .message10 .given .1))
+
+returns-13 : tie.Need-returns-13
+returns-13 c = c .zone-key2 .ensures ∙ ap keyOf (sym (c .before .before .message11 .given .1))
+
+returns-14 : tie.Need-returns-14
+returns-14 c = c .zone-key3 .ensures ∙ ap keyOf (sym (c .before .before .message12 .given .1))
+
 pub key-of-spec : {M : Type 1} → statement M
 key-of-spec =
     tie.close
@@ -95,6 +122,12 @@ key-of-spec =
     enum-known-message-9
     enum-told-2
     blank-requires-2
+    enum-known-message-10
+    zone-key-requires
+    enum-known-message-11
+    zone-key-requires-2
+    enum-known-message-12
+    zone-key-requires-3
     returns
     returns-2
     returns-3
@@ -105,4 +138,7 @@ key-of-spec =
     returns-8
     returns-9
     returns-10
-    returns-11)
+    returns-11
+    returns-12
+    returns-13
+    returns-14)

@@ -72,6 +72,24 @@ enum-known-message-11 c = search needs
 close-requires : tie.Need-close-requires
 close-requires c κs = tt
 
+enum-known-message-12 : tie.Need-enum-known-message-12
+enum-known-message-12 c = search needs
+
+open-sides-requires : tie.Need-open-sides-requires
+open-sides-requires c κs = tt
+
+enum-known-message-13 : tie.Need-enum-known-message-13
+enum-known-message-13 c = search needs
+
+revise-sides-requires : tie.Need-revise-sides-requires
+revise-sides-requires c κs = tt
+
+enum-known-message-14 : tie.Need-enum-known-message-14
+enum-known-message-14 c = search needs
+
+post-sides-requires : tie.Need-post-sides-requires
+post-sides-requires c κs = tt
+
 returns : tie.Need-returns
 returns c =
     let k = c .before .before in
@@ -145,6 +163,27 @@ returns-11 c =
     let a = k .before .before .before .args in
     c .close .ensures ∙ ap (λ (m : Message). planned (plan (a .old) m (a .mwh .now) (a .prices .now))) (sym (k .message11 .given .1))
 
+returns-12 : tie.Need-returns-12
+unfolding plan
+returns-12 c =
+    let k = c .before .before in
+    let a = k .before .before .before .args in
+    c .open-sides .ensures ∙ ap (λ (m : Message). planned (plan (a .old) m (a .mwh .now) (a .prices .now))) (sym (k .message12 .given .1))
+
+returns-13 : tie.Need-returns-13
+unfolding plan
+returns-13 c =
+    let k = c .before .before in
+    let a = k .before .before .before .args in
+    c .revise-sides .ensures ∙ ap (λ (m : Message). planned (plan (a .old) m (a .mwh .now) (a .prices .now))) (sym (k .message13 .given .1))
+
+returns-14 : tie.Need-returns-14
+unfolding plan
+returns-14 c =
+    let k = c .before .before in
+    let a = k .before .before .before .args in
+    c .post-sides .ensures ∙ ap (λ (m : Message). planned (plan (a .old) m (a .mwh .now) (a .prices .now))) (sym (k .message14 .given .1))
+
 pub plan-of-spec : {M : Type 1} → statement M
 plan-of-spec =
     tie.close
@@ -171,6 +210,12 @@ plan-of-spec =
     revise-curves-requires
     enum-known-message-11
     close-requires
+    enum-known-message-12
+    open-sides-requires
+    enum-known-message-13
+    revise-sides-requires
+    enum-known-message-14
+    post-sides-requires
     returns
     returns-2
     returns-3
@@ -181,4 +226,7 @@ plan-of-spec =
     returns-8
     returns-9
     returns-10
-    returns-11)
+    returns-11
+    returns-12
+    returns-13
+    returns-14)

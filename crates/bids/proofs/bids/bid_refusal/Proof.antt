@@ -24,6 +24,9 @@ points-refusal-requires c κs = tt
 or-else-requires : tie.Need-or-else-requires
 or-else-requires c κs = tt
 
+has-one-curve-requires : tie.Need-has-one-curve-requires
+has-one-curve-requires c κs = tt
+
 in-range-requires : tie.Need-in-range-requires
 in-range-requires c κs = tt
 
@@ -36,17 +39,18 @@ pick-requires-3 c κs = tt
 returns : tie.Need-returns
 unfolding first bidRows
 returns c =
-    let s = c .before .before .before .before .before .before .before .before .before .args in
+    let s = c .before .before .before .before .before .before .before .before .before .before .args in
     let last = row 8 (not (differentialFits (rulesOf (s .kind)) (s .differential))) ∷ [] in
     rw (
       c .pick3 .ensures,
       c .before .in-range .ensures,
       c .before .before .pick2 .ensures,
-      c .before .before .before .or-else .ensures,
-      c .before .before .before .before .points-refusal .ensures,
-      c .before .before .before .before .before .pick .ensures,
-      c .before .before .before .before .before .before .differential-fits .ensures,
-      c .before .before .before .before .before .before .before .rules .ensures,
+      c .before .before .before .has-one-curve .ensures,
+      c .before .before .before .before .or-else .ensures,
+      c .before .before .before .before .before .points-refusal .ensures,
+      c .before .before .before .before .before .before .pick .ensures,
+      c .before .before .before .before .before .before .before .differential-fits .ensures,
+      c .before .before .before .before .before .before .before .before .rules .ensures,
       first-append (pointRows (s .mwh .now) (s .prices .now)) last (point-rows-numbered (s .mwh .now) (s .prices .now)),
     )
 
@@ -59,6 +63,7 @@ bid-refusal-spec =
     pick-requires
     points-refusal-requires
     or-else-requires
+    has-one-curve-requires
     pick-requires-2
     in-range-requires
     pick-requires-3

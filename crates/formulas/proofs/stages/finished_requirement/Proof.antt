@@ -4,7 +4,7 @@ use mir.Facts.{toZ-ofZ}
 use Rattle.amounts.proofs.Steps.{back}
 use Rattle.kinds.specs.Kinds.{unlessExempt}
 use Rattle.kinds.proofs.Fits.{pending-bid}
-use Rattle.kinds.proofs.ByKind.{kind-1, kind-2, kind-3, kind-4, kind-5, kind-none}
+use Rattle.kinds.proofs.ByKind.{kind-1, kind-2, kind-3, kind-4, kind-5, kind-6, kind-none}
 use Rattle.formulas.specs.Stages.{importFinished, exportFinished, hourAheadFinished, wheelFinished, finishedRequirement}
 use Rattle.formulas.proofs.Given.{handed-price, handed-pending, Finish, finish}
 use Rattle.formulas.proofs.stages.finished_requirement.Statement.{statement}
@@ -59,7 +59,7 @@ returns c =
     back (c .unless-exempt .result) (c .unless-exempt .ok)
     ∙ c .unless-exempt .ensures
     ∙ ap (unlessExempt (a .exempt)) (finished ∙ (λ i. importFinished (a .schedule) (toZ-ofZ (s .fits .day-ahead) i) (a .actual) (toZ-ofZ (s .fits .price) i)))
-    ∙ sym (kind-1 (a .kind) _ _ _ _ _ _ (c .before .before .match .keys1))
+    ∙ sym (kind-1 (a .kind) _ _ _ _ _ _ _ (c .before .before .match .keys1))
 
 returns-2 : tie.Need-returns-2
 unfolding finishedRequirement
@@ -69,7 +69,7 @@ returns-2 c =
     back (c .export-finished .result) (c .export-finished .ok)
     ∙ c .export-finished .ensures
     ∙ (λ i. exportFinished (toZ-ofZ (s .fits .posted-cents) i) (a .schedule) (a .actual) (toZ-ofZ (s .fits .price) i))
-    ∙ sym (kind-2 (a .kind) _ _ _ _ _ _ (c .before .match .keys2))
+    ∙ sym (kind-2 (a .kind) _ _ _ _ _ _ _ (c .before .match .keys2))
 
 returns-3 : tie.Need-returns-3
 unfolding finishedRequirement
@@ -79,7 +79,7 @@ returns-3 c =
     back (c .hour-ahead-finished .result) (c .hour-ahead-finished .ok)
     ∙ c .hour-ahead-finished .ensures
     ∙ ap (hourAheadFinished (a .actual)) (toZ-ofZ (s .fits .price))
-    ∙ sym (kind-3 (a .kind) _ _ _ _ _ _ (c .before .match .keys3))
+    ∙ sym (kind-3 (a .kind) _ _ _ _ _ _ _ (c .before .match .keys3))
 
 -- the wheel's amount, of the prices and the posted amount themselves
 wheel : (c : tie.After-wheel-finished) → let a = c .before .before .args in c .wheel-finished .result ≡ wheelFinished (a .posted-cents) (a .schedule) (a .actual) (a .price) (a .second)
@@ -92,7 +92,7 @@ unfolding finishedRequirement
 returns-4 c =
     back (c .wheel-finished .result) (c .wheel-finished .ok)
     ∙ wheel c
-    ∙ sym (kind-4 (c .before .before .args .kind) _ _ _ _ _ _ (c .before .match .keys4))
+    ∙ sym (kind-4 (c .before .before .args .kind) _ _ _ _ _ _ _ (c .before .match .keys4))
 
 returns-5 : tie.Need-returns-5
 unfolding finishedRequirement
@@ -102,13 +102,17 @@ returns-5 c =
     back (c .hour-ahead-finished2 .result) (c .hour-ahead-finished2 .ok)
     ∙ c .hour-ahead-finished2 .ensures
     ∙ ap (hourAheadFinished (a .actual)) (toZ-ofZ (s .fits .price))
-    ∙ sym (kind-5 (a .kind) _ _ _ _ _ _ (c .before .match .keys5))
+    ∙ sym (kind-5 (a .kind) _ _ _ _ _ _ _ (c .before .match .keys5))
 
 returns-6 : tie.Need-returns-6
 unfolding finishedRequirement
-returns-6 c =
+returns-6 c = sym (kind-6 (c .before .args .kind) _ _ _ _ _ _ _ (c .match .keys6))
+
+returns-7 : tie.Need-returns-7
+unfolding finishedRequirement
+returns-7 c =
     let others = c .match .rest in
-    sym (kind-none (c .before .args .kind) _ _ _ _ _ _ (others .0 .0 .0 .0 .1) (others .0 .0 .0 .1) (others .0 .0 .1) (others .0 .1) (others .1))
+    sym (kind-none (c .before .args .kind) _ _ _ _ _ _ _ (others .0 .0 .0 .0 .0 .1) (others .0 .0 .0 .0 .1) (others .0 .0 .0 .1) (others .0 .0 .1) (others .0 .1) (others .1))
 
 pub finished-requirement-spec : {M : Type 1} → statement M
 finished-requirement-spec =
@@ -125,4 +129,5 @@ finished-requirement-spec =
     returns-3
     returns-4
     returns-5
-    returns-6)
+    returns-6
+    returns-7)

@@ -3,7 +3,7 @@ use mathlib.Core.Path.{sym, ap, _∙_}
 use mir.Facts.{toZ-ofZ}
 use Rattle.amounts.proofs.Steps.{back}
 use Rattle.kinds.specs.Kinds.{unlessExempt}
-use Rattle.kinds.proofs.ByKind.{kind-1, kind-2, kind-3, kind-4, kind-5, kind-none}
+use Rattle.kinds.proofs.ByKind.{kind-1, kind-2, kind-3, kind-4, kind-5, kind-6, kind-none}
 use Rattle.formulas.specs.Stages.{exportPosted, wheelPosted, postedRequirement}
 use Rattle.formulas.proofs.Given.{handed-price, Posting, posting}
 use Rattle.formulas.proofs.stages.posted_requirement.Statement.{statement}
@@ -37,7 +37,7 @@ returns c =
     back (c .unless-exempt .result) (c .unless-exempt .ok)
     ∙ c .unless-exempt .ensures
     ∙ ap (unlessExempt (a .exempt)) (back (c .before .import-posted .result) (c .before .import-posted .ok) ∙ c .before .import-posted .ensures)
-    ∙ sym (kind-1 (a .kind) _ _ _ _ _ _ (c .before .before .match .keys1))
+    ∙ sym (kind-1 (a .kind) _ _ _ _ _ _ _ (c .before .before .match .keys1))
 
 returns-2 : tie.Need-returns-2
 unfolding postedRequirement
@@ -47,11 +47,11 @@ returns-2 c =
     back (c .export-posted .result) (c .export-posted .ok)
     ∙ c .export-posted .ensures
     ∙ (λ i. exportPosted (a .schedule) (toZ-ofZ (s .fits .price) i) (a .differential))
-    ∙ sym (kind-2 (a .kind) _ _ _ _ _ _ (c .before .match .keys2))
+    ∙ sym (kind-2 (a .kind) _ _ _ _ _ _ _ (c .before .match .keys2))
 
 returns-3 : tie.Need-returns-3
 unfolding postedRequirement
-returns-3 c = sym (kind-3 (c .before .args .kind) _ _ _ _ _ _ (c .match .keys3))
+returns-3 c = sym (kind-3 (c .before .args .kind) _ _ _ _ _ _ _ (c .match .keys3))
 
 returns-4 : tie.Need-returns-4
 unfolding postedRequirement
@@ -61,17 +61,21 @@ returns-4 c =
     back (c .wheel-posted .result) (c .wheel-posted .ok)
     ∙ c .wheel-posted .ensures
     ∙ (λ i. wheelPosted (a .schedule) (toZ-ofZ (s .fits .price) i) (toZ-ofZ (s .fits .second) i))
-    ∙ sym (kind-4 (a .kind) _ _ _ _ _ _ (c .before .match .keys4))
+    ∙ sym (kind-4 (a .kind) _ _ _ _ _ _ _ (c .before .match .keys4))
 
 returns-5 : tie.Need-returns-5
 unfolding postedRequirement
-returns-5 c = sym (kind-5 (c .before .args .kind) _ _ _ _ _ _ (c .match .keys5))
+returns-5 c = sym (kind-5 (c .before .args .kind) _ _ _ _ _ _ _ (c .match .keys5))
 
 returns-6 : tie.Need-returns-6
 unfolding postedRequirement
-returns-6 c =
+returns-6 c = sym (kind-6 (c .before .args .kind) _ _ _ _ _ _ _ (c .match .keys6))
+
+returns-7 : tie.Need-returns-7
+unfolding postedRequirement
+returns-7 c =
     let others = c .match .rest in
-    sym (kind-none (c .before .args .kind) _ _ _ _ _ _ (others .0 .0 .0 .0 .1) (others .0 .0 .0 .1) (others .0 .0 .1) (others .0 .1) (others .1))
+    sym (kind-none (c .before .args .kind) _ _ _ _ _ _ _ (others .0 .0 .0 .0 .0 .1) (others .0 .0 .0 .0 .1) (others .0 .0 .0 .1) (others .0 .0 .1) (others .0 .1) (others .1))
 
 pub posted-requirement-spec : {M : Type 1} → statement M
 posted-requirement-spec =
@@ -86,4 +90,5 @@ posted-requirement-spec =
     returns-3
     returns-4
     returns-5
-    returns-6)
+    returns-6
+    returns-7)

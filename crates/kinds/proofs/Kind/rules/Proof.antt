@@ -1,6 +1,6 @@
 -- `Kind::rules`: each row is the table's.
 use mathlib.Core.Path.{sym}
-use Rattle.kinds.proofs.ByKind.{rules-1, rules-2, rules-3, rules-4, rules-5, rules-none}
+use Rattle.kinds.proofs.ByKind.{rules-1, rules-2, rules-3, rules-4, rules-5, rules-6, rules-none}
 use Rattle.kinds.proofs.Kind.rules.Statement.{statement}
 use Rattle.kinds.proofs.Kind.rules.Tie as tie
 
@@ -20,9 +20,12 @@ returns-5 : tie.Need-returns-5
 returns-5 c = sym (rules-5 (c .before .args .self .number) (c .match .keys5))
 
 returns-6 : tie.Need-returns-6
-returns-6 c =
+returns-6 c = sym (rules-6 (c .before .args .self .number) (c .match .keys6))
+
+returns-7 : tie.Need-returns-7
+returns-7 c =
     let others = c .match .rest in
-    sym (rules-none (c .before .args .self .number) (others .0 .0 .0 .0 .1) (others .0 .0 .0 .1) (others .0 .0 .1) (others .0 .1) (others .1))
+    sym (rules-none (c .before .args .self .number) (others .0 .0 .0 .0 .0 .1) (others .0 .0 .0 .0 .1) (others .0 .0 .0 .1) (others .0 .0 .1) (others .0 .1) (others .1))
 
 pub rules-spec : {M : Type 1} → statement M
-rules-spec = tie.close (tie.spec returns returns-2 returns-3 returns-4 returns-5 returns-6)
+rules-spec = tie.close (tie.spec returns returns-2 returns-3 returns-4 returns-5 returns-6 returns-7)

@@ -41,6 +41,9 @@ keeps-row-of-requires-4 c κs = tt
 keeps-row-of-requires-5 : tie.Need-keeps-row-of-requires-5
 keeps-row-of-requires-5 c κs = tt
 
+keeps-row-of-requires-6 : tie.Need-keeps-row-of-requires-6
+keeps-row-of-requires-6 c κs = tt
+
 -- past the first test the key is in range
 fits : (c : tie.Else1) → keyFits (c .before .before .args .self .key) ≡ true
 fits c = sym (c .before .in-range .ensures) ∙ not-false _ (c .if1 .left)
@@ -60,12 +63,15 @@ returns-5 c = let e = c .before .before in c .keeps-row-of4 .ensures ∙ by-row 
 returns-6 : tie.Need-returns-6
 returns-6 c = let e = c .before .before in c .keeps-row-of5 .ensures ∙ by-row (e .before .before .args .self) (fits e) 5 (c .before .match .keys5)
 
--- no key in range is of another kind
 returns-7 : tie.Need-returns-7
-returns-7 c =
+returns-7 c = let e = c .before .before in c .keeps-row-of6 .ensures ∙ by-row (e .before .before .args .self) (fits e) 6 (c .before .match .keys6)
+
+-- no key in range is of another kind
+returns-8 : tie.Need-returns-8
+returns-8 c =
     let others = c .match .rest in
     let bounds = key-bounds (c .before .before .before .args .self .key) (fits (c .before)) in
-    absurd (omega (arith, bounds .kind-low, bounds .kind-high, others .0 .0 .0 .0 .1, others .0 .0 .0 .1, others .0 .0 .1, others .0 .1, others .1))
+    absurd (omega (arith, bounds .kind-low, bounds .kind-high, others .0 .0 .0 .0 .0 .1, others .0 .0 .0 .0 .1, others .0 .0 .0 .1, others .0 .0 .1, others .0 .1, others .1))
 
 pub in-range-spec : {M : Type 1} → statement M
 in-range-spec =
@@ -78,9 +84,11 @@ in-range-spec =
     keeps-row-of-requires-3
     keeps-row-of-requires-4
     keeps-row-of-requires-5
+    keeps-row-of-requires-6
     returns-2
     returns-3
     returns-4
     returns-5
     returns-6
-    returns-7)
+    returns-7
+    returns-8)

@@ -28,19 +28,23 @@ requirement-fits-requires c κs = tt
 quarters-fit-requires : tie.Need-quarters-fit-requires
 quarters-fit-requires c κs = tt
 
+sides-fit-requires : tie.Need-sides-fit-requires
+sides-fit-requires c κs = tt
+
 returns : tie.Need-returns
 unfolding keeps
 returns c =
     rw (
-      c .before .before .before .before .before .before .before .before .has-stage .ensures,
-      c .before .before .before .before .before .before .before .bid-mwh-fits .ensures,
-      c .before .before .before .before .before .before .schedule-fits .ensures,
-      c .before .before .before .before .before .differential-fits .ensures,
-      c .before .before .before .before .day-ahead-fits .ensures,
-      c .before .before .before .exempt-fits .ensures,
-      c .before .requirement-fits .ensures,
-      c .quarters-fit .ensures,
-      back (c .before .before .before .before .before .before .before .before .before .args .self .requirement) (c .before .before .struct-told .given .1 .1 .1 .1 .1 .1 .1 .0 .1),
+      c .before .before .before .before .before .before .before .before .before .has-stage .ensures,
+      c .before .before .before .before .before .before .before .before .bid-mwh-fits .ensures,
+      c .before .before .before .before .before .before .before .schedule-fits .ensures,
+      c .before .before .before .before .before .before .differential-fits .ensures,
+      c .before .before .before .before .before .day-ahead-fits .ensures,
+      c .before .before .before .before .exempt-fits .ensures,
+      c .before .before .requirement-fits .ensures,
+      c .before .quarters-fit .ensures,
+      c .sides-fit .ensures,
+      back (c .before .before .before .before .before .before .before .before .before .before .args .self .requirement) (c .before .before .before .struct-told .given .1 .1 .1 .1 .1 .1 .1 .0 .1),
     )
 
 pub keeps-spec : {M : Type 1} → statement M
@@ -55,4 +59,5 @@ keeps-spec =
     exempt-fits-requires
     requirement-fits-requires
     quarters-fit-requires
+    sides-fit-requires
     returns)
