@@ -21,7 +21,7 @@ use Rattle.records.specs.Records.{blank, at}
 use Rattle.keys.proofs.Laws.{sameKey-eq, sameKey-refl}
 use Rattle.records.proofs.Places.{free-blank}
 use Rattle.messages.specs.declared.types.Message.{Message}
-use Rattle.messages.specs.declared.types.Message.the-variants.{Open, Revise, Withdraw, Post, Finish, Bill, Pay, Support, OpenCurves, ReviseCurves, Close}
+use Rattle.messages.specs.declared.types.Message.the-variants.{Open, Revise, Withdraw, Post, Finish, Bill, Pay, Support, OpenCurves, ReviseCurves, Close, OpenSides, ReviseSides, PostSides}
 use Rattle.messages.specs.declared.types.Change.{Change}
 use Rattle.messages.specs.declared.types.Change.the-variants.{Add, Rebid, Advance, Remove, AddPending}
 use Rattle.messages.specs.declared.types.Deed.{Deed}
@@ -245,6 +245,9 @@ keyed-asks old (Support s) ms ps h = never h
 keyed-asks old (OpenCurves c) ms ps h = (_, refl)
 keyed-asks old (ReviseCurves c) ms ps h = (_, refl)
 keyed-asks old (Close c) ms ps h = never h
+keyed-asks old (OpenSides s) ms ps h = (_, refl)
+keyed-asks old (ReviseSides s) ms ps h = (_, refl)
+keyed-asks old (PostSides p) ms ps h = (_, refl)
 
 -- accepted, from the parts of the table
 pub takes : (b : Book) (m : Message) (ms : List ℕ) (ps : List ℤ) → sound b ≡ true → None (planRows (lookup b (keyOf m)) m ms ps) → None (bookRows b ms (deedOf b m ms ps))

@@ -12,7 +12,7 @@ use Rattle.keys.specs.Keys.{sameKey}
 use Rattle.messages.specs.declared.types.Funding.{Funding}
 use Rattle.messages.specs.declared.types.Closing.{Closing}
 use Rattle.messages.specs.declared.types.Message.{Message}
-use Rattle.messages.specs.declared.types.Message.the-variants.{Open, Revise, Withdraw, Post, Finish, Bill, Pay, Support, OpenCurves, ReviseCurves, Close}
+use Rattle.messages.specs.declared.types.Message.the-variants.{Open, Revise, Withdraw, Post, Finish, Bill, Pay, Support, OpenCurves, ReviseCurves, Close, OpenSides, ReviseSides, PostSides}
 use Rattle.messages.specs.declared.types.Deed.the-variants.{SetSupport}
 use Rattle.messages.specs.Plan.{keyOf, opens}
 use Rattle.book.specs.declared.types.Book.{Book}
@@ -88,6 +88,9 @@ undealt (Support f) h = (f, refl)
 undealt (OpenCurves c) h = never (sym h)
 undealt (ReviseCurves c) h = never (sym h)
 undealt (Close c) h = never (sym h)
+undealt (OpenSides s) h = never (sym h)
+undealt (ReviseSides s) h = never (sym h)
+undealt (PostSides p) h = never (sym h)
 
 module _ (o : Key → Bool) (H : ℕ → Bool) (W : Book) (D : Bool → Book) (I : Deal o H W D) where
   supported : (ms : List ℕ) (ps : List ℤ) (z : ℤ) → Deal o H (done W ms ps (SetSupport z)) D
@@ -156,6 +159,9 @@ closes (Support f) d h = never d
 closes (OpenCurves c) d h = never (sym h)
 closes (ReviseCurves c) d h = never (sym h)
 closes (Close c) d h = (c, refl)
+closes (OpenSides s) d h = never (sym h)
+closes (ReviseSides s) d h = never (sym h)
+closes (PostSides p) d h = never (sym h)
 
 pub ends : (xs : List Dealt) (o : Key → Bool) (H : ℕ → Bool) (W : Book) (D : Bool → Book) → Deal o H W D → Fair o H xs → Accepted W (whole xs) → Unremoved W (whole xs) → Ends o H W D xs
 unfolding Fair Accepted Unremoved whole

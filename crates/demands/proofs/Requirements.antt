@@ -12,18 +12,18 @@ use Rattle.kinds.specs.Kinds.{finishedStage}
 use Rattle.keys.specs.declared.Key.{Key}
 use Rattle.keys.specs.Keys.{sameKey, keyFits}
 use Rattle.records.specs.declared.types.Record.{Record}
-use Rattle.records.specs.Records.{blank, pendingRecord}
+use Rattle.records.specs.Records.{blank, pendingRecord, sidesRecord, sidesPosted}
 use Rattle.records.proofs.Clauses.{clauses}
 use Rattle.messages.specs.declared.types.Message.{Message}
-use Rattle.messages.specs.declared.types.Message.the-variants.{Open, Revise, Withdraw, Post, Finish, Bill, Pay, Support, OpenCurves, ReviseCurves, Close}
+use Rattle.messages.specs.declared.types.Message.the-variants.{Open, Revise, Withdraw, Post, Finish, Bill, Pay, Support, OpenCurves, ReviseCurves, Close, OpenSides, ReviseSides, PostSides}
 use Rattle.messages.specs.declared.types.Funding.{Funding}
 use Rattle.messages.specs.declared.types.Change.{Change}
 use Rattle.messages.specs.declared.types.Change.the-variants.{Add, Rebid, Advance, Remove, AddPending}
 use Rattle.messages.specs.declared.types.Deed.{Deed}
 use Rattle.messages.specs.declared.types.Deed.the-variants.{Keyed, SetSupport, CloseHour}
-use Rattle.messages.specs.Plan.{keyOf, openedRecord, postedRecord, laterRecord}
+use Rattle.messages.specs.Plan.{keyOf, openedRecord, postedRecord, laterRecord, zoneKey}
 use Rattle.messages.proofs.Fits.{Fits}
-use Rattle.messages.proofs.Formulas.{bid-is, revised-is, posted-is, finished-is, intervals-is, revised-intervals-is}
+use Rattle.messages.proofs.Formulas.{bid-is, revised-is, posted-is, finished-is, intervals-is, revised-intervals-is, sides-is, revised-sides-is, posted-sides-is}
 use Rattle.credit.specs.Credit.{answeredBy}
 use Rattle.book.specs.declared.types.Book.{Book}
 use Rattle.book.specs.Places.{orElseBlank}
@@ -121,6 +121,17 @@ module _ (b : Book) (ms : List ℕ) (ps : List ℤ) where
   sets (ReviseCurves c) ok =
       let k = taken b (ReviseCurves c) ms ps ok in
       here b (ReviseCurves c) ms ps ok _ refl ∙ ap (pendingRecord (c .key)) (revised-intervals-is (lookup b (c .key)) c ms ps (lookup-under b (c .key) (k .sane)) (k .planned))
+  sets (OpenSides s) ok =
+      let k = taken b (OpenSides s) ms ps ok in
+      here b (OpenSides s) ms ps ok _ refl ∙ ap (sidesRecord (zoneKey (s .zone) (s .hour)) (s .load) (s .supply)) (sides-is (lookup b (zoneKey (s .zone) (s .hour))) s ms ps (k .planned))
+  sets (ReviseSides s) ok =
+      let k = taken b (ReviseSides s) ms ps ok in
+      let key = zoneKey (s .zone) (s .hour) in
+      here b (ReviseSides s) ms ps ok _ refl ∙ ap (sidesRecord key (s .load) (s .supply)) (revised-sides-is (lookup b key) s ms ps (lookup-under b key (k .sane)) (k .planned))
+  sets (PostSides p) ok =
+      let k = taken b (PostSides p) ms ps ok in
+      let key = zoneKey (p .zone) (p .hour) in
+      here b (PostSides p) ms ps ok _ refl ∙ ap (sidesPosted (lookup b key) (p .load) (p .supply)) (posted-sides-is (lookup b key) p ms ps (lookup-under b key (k .sane)) (k .planned))
   sets (Close c) ok = unnamed (nextBook b (Close c) ms ps) (sound-kept b (Close c) ms ps (taken b (Close c) ms ps ok .sane))
 
   -- what is answered stands under the key
@@ -136,4 +147,7 @@ module _ (b : Book) (ms : List ℕ) (ps : List ℤ) where
   answers (Support s) ok n = answered b (Support s) ms ps ok _ refl ∙ sym (ap (λ (r : Record). r .requirement) (sets (Support s) ok))
   answers (OpenCurves c) ok n = answered-here b (OpenCurves c) ms ps ok _ refl
   answers (ReviseCurves c) ok n = answered-here b (ReviseCurves c) ms ps ok _ refl
+  answers (OpenSides s) ok n = answered-here b (OpenSides s) ms ps ok _ refl
+  answers (ReviseSides s) ok n = answered-here b (ReviseSides s) ms ps ok _ refl
+  answers (PostSides p) ok n = answered-here b (PostSides p) ms ps ok _ refl
   answers (Close c) ok n = never (sym n)

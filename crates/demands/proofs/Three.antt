@@ -16,8 +16,8 @@ use Rattle.records.specs.Records.{blank}
 use Rattle.keys.proofs.Laws.{sameKey-eq}
 use Rattle.messages.specs.declared.types.Closing.{Closing}
 use Rattle.messages.specs.declared.types.Message.{Message}
-use Rattle.messages.specs.declared.types.Message.the-variants.{Open, Revise, Withdraw, Post, Finish, Bill, Pay, Support, OpenCurves, ReviseCurves, Close}
-use Rattle.messages.specs.Plan.{keyOf, opens}
+use Rattle.messages.specs.declared.types.Message.the-variants.{Open, Revise, Withdraw, Post, Finish, Bill, Pay, Support, OpenCurves, ReviseCurves, Close, OpenSides, ReviseSides, PostSides}
+use Rattle.messages.specs.Plan.{keyOf, opens, zoneKey}
 use Rattle.credit.specs.Credit.{owes}
 use Rattle.book.specs.declared.types.Book.{Book}
 use Rattle.book.specs.Places.{orElseBlank}
@@ -99,6 +99,9 @@ goesBy (Support m) = blank .key
 goesBy (OpenCurves m) = m .key
 goesBy (ReviseCurves m) = m .key
 goesBy (Close c) = hourKey (c .hour)
+goesBy (OpenSides s) = zoneKey (s .zone) (s .hour)
+goesBy (ReviseSides s) = zoneKey (s .zone) (s .hour)
+goesBy (PostSides p) = zoneKey (p .zone) (p .hour)
 
 unfoldable pub byKey : (Key → Bool) → List Sent → List Dealt
 byKey o [] = []
@@ -116,6 +119,9 @@ own-key (Support m) = inl refl
 own-key (OpenCurves m) = inl refl
 own-key (ReviseCurves m) = inl refl
 own-key (Close c) = inr (c, refl)
+own-key (OpenSides s) = inl refl
+own-key (ReviseSides s) = inl refl
+own-key (PostSides p) = inl refl
 
 keyed-own : (m : Message) → keyed m ≡ true → goesBy m ≡ keyOf m
 keyed-own m h = ⊎-elim (λ e. e) (λ c. never (sym (ap keyed (c .1)) ∙ h)) (own-key m)

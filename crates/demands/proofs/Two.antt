@@ -18,7 +18,7 @@ use Rattle.records.specs.declared.types.Record.{Record}
 use Rattle.records.specs.Records.{isFree, okPlace}
 use Rattle.records.proofs.Places.{place-free}
 use Rattle.messages.specs.declared.types.Message.{Message}
-use Rattle.messages.specs.declared.types.Message.the-variants.{Open, Revise, Withdraw, Post, Finish, Bill, Pay, Support, OpenCurves, ReviseCurves, Close}
+use Rattle.messages.specs.declared.types.Message.the-variants.{Open, Revise, Withdraw, Post, Finish, Bill, Pay, Support, OpenCurves, ReviseCurves, Close, OpenSides, ReviseSides, PostSides}
 use Rattle.messages.specs.declared.types.Funding.{Funding}
 use Rattle.messages.specs.declared.types.Closing.{Closing}
 use Rattle.credit.specs.Credit.{owes, suspended}
@@ -51,6 +51,9 @@ module _ (b : Book) (ms : List ℕ) (ps : List ℤ) where
   funded (OpenCurves c) = refl
   funded (ReviseCurves c) = refl
   funded (Close c) = refl
+  funded (OpenSides s) = refl
+  funded (ReviseSides s) = refl
+  funded (PostSides p) = refl
 
   placed : (m : Message) → replied b m ms ps .number ≡ 0 → (s : Funding) → m ≡ Support s → nextBook b m ms ps .records ≡ b .records
   unfolding done
@@ -90,6 +93,9 @@ module _ (b : Book) (ms : List ℕ) (ps : List ℤ) where
   answer-kept (OpenCurves c) n h w = refl
   answer-kept (ReviseCurves c) n h w = refl
   answer-kept (Close c) n h w = never (sym n)
+  answer-kept (OpenSides s) n h w = refl
+  answer-kept (ReviseSides s) n h w = refl
+  answer-kept (PostSides p) n h w = refl
 
   unremoved : (m : Message) → closes m ≡ false → replied b m ms ps .removed ≡ false
   unremoved m n =

@@ -12,10 +12,11 @@ use Rattle.bids.specs.Rows.{pointRows, bidRows}
 use Rattle.deliveries.specs.Rows.{deliveryRows, billRows}
 use Rattle.keys.specs.Keys.{keyRows}
 use Rattle.intervals.specs.Intervals.{curvesRows}
+use Rattle.virtuals.specs.Virtuals.{sideRows, mwhRows}
 use Rattle.closings.specs.Closings.{closeRows}
 use Rattle.records.specs.declared.types.Record.{Record}
 use Rattle.messages.specs.declared.types.Message.{Message}
-use Rattle.messages.specs.declared.types.Message.the-variants.{Open, Revise, Withdraw, Post, Finish, Bill, Pay, Support, OpenCurves, ReviseCurves, Close}
+use Rattle.messages.specs.declared.types.Message.the-variants.{Open, Revise, Withdraw, Post, Finish, Bill, Pay, Support, OpenCurves, ReviseCurves, Close, OpenSides, ReviseSides, PostSides}
 use Rattle.messages.specs.declared.types.Change.the-variants.{Add, Rebid, Advance, Remove, AddPending}
 use Rattle.messages.specs.declared.types.Deed.{Deed}
 use Rattle.messages.specs.declared.types.Deed.the-variants.{Keyed, SetSupport, CloseHour}
@@ -32,7 +33,7 @@ use Rattle.demands.proofs.Answers.{number-is}
 use Rattle.demands.proofs.Lacking.{lacks, lacks-append, lacks-first}
 
 plan-lacks : (old : Record) (m : Message) (ms : List ℕ) (ps : List ℤ) → lacks 1 (planRows old m ms ps) ≡ true
-unfolding lacks keyRows stageRows pointRows bidRows deliveryRows billRows curvesRows closeRows
+unfolding lacks keyRows stageRows pointRows bidRows deliveryRows billRows curvesRows closeRows sideRows mwhRows
 plan-lacks old (Open o) ms ps = refl
 plan-lacks old (Revise o) ms ps = refl
 plan-lacks old (Withdraw k) ms ps = refl
@@ -44,6 +45,9 @@ plan-lacks old (Support s) ms ps = refl
 plan-lacks old (OpenCurves c) ms ps = refl
 plan-lacks old (ReviseCurves c) ms ps = refl
 plan-lacks old (Close c) ms ps = refl
+plan-lacks old (OpenSides s) ms ps = refl
+plan-lacks old (ReviseSides s) ms ps = refl
+plan-lacks old (PostSides p) ms ps = refl
 
 credit-lacks : (t : Totals) (d : Deed) → lacks 1 (creditRows t d) ≡ true
 unfolding lacks

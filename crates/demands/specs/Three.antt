@@ -14,7 +14,7 @@ use Rattle.records.specs.Records.{blank}
 use Rattle.kinds.specs.Kinds.{quarterHour}
 use Rattle.messages.specs.declared.types.Message.{Message}
 use Rattle.messages.specs.declared.types.Closing.{Closing}
-use Rattle.messages.specs.declared.types.Message.the-variants.{Open, Revise, Withdraw, Post, Finish, Bill, Pay, Support, OpenCurves, ReviseCurves, Close}
+use Rattle.messages.specs.declared.types.Message.the-variants.{Open, Revise, Withdraw, Post, Finish, Bill, Pay, Support, OpenCurves, ReviseCurves, Close, OpenSides, ReviseSides, PostSides}
 use Rattle.messages.specs.Plan.{keyOf, opens}
 use Rattle.book.specs.declared.types.Book.{Book}
 use Rattle.book.specs.Books.{lookup, held, owed}
@@ -66,6 +66,9 @@ keyed (Support s) = false
 keyed (OpenCurves c) = true
 keyed (ReviseCurves c) = true
 keyed (Close c) = false
+keyed (OpenSides s) = true
+keyed (ReviseSides s) = true
+keyed (PostSides p) = true
 
 -- what is dealt: every message but a support change
 abbrev pub isDealt : Message → Bool
@@ -80,6 +83,9 @@ isDealt (Support s) = false
 isDealt (OpenCurves c) = true
 isDealt (ReviseCurves c) = true
 isDealt (Close c) = true
+isDealt (OpenSides s) = true
+isDealt (ReviseSides s) = true
+isDealt (PostSides p) = true
 
 -- what the side s is sent: the messages that are dealt to it, with support changes left out
 abbrev pub goes : Bool → Dealt → Bool

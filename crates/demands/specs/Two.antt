@@ -1,5 +1,5 @@
 -- Demand 2: 'Every requirement that a message sets, from bid to posted schedule, finished hour and bill, equals 01's formulas.
--- Credit held is the sum over open transactions. Suspension stands exactly when the net billed amount reaches half the support.' With 02, order 3, for four curves and a close.
+-- Credit held is the sum over open transactions. Suspension stands exactly when the net billed amount reaches half the support.' With 02, order 3, for four curves and a close, and order 6 for two sides.
 -- The theorem is demand-two, proofs/Two.antt.
 -- Assumes nothing.
 use mathlib.Core.Path.{_≡_}
@@ -20,13 +20,14 @@ use Rattle.keys.specs.Keys.{sameKey}
 use Rattle.records.specs.declared.types.Record.{Record}
 use Rattle.intervals.specs.Intervals.{intervalsOf}
 use Rattle.closings.specs.Closings.{placeOf, quoteAt, closedRequirement}
-use Rattle.records.specs.Records.{blank, pendingRecord, isFree, isPending}
+use Rattle.virtuals.specs.Virtuals.{virtualBid, virtualPosted}
+use Rattle.records.specs.Records.{blank, pendingRecord, sidesRecord, sidesPosted, isFree, isPending}
 use Rattle.messages.specs.declared.types.Message.{Message}
-use Rattle.messages.specs.declared.types.Message.the-variants.{Open, Revise, Withdraw, Post, Finish, Bill, Pay, Support, OpenCurves, ReviseCurves, Close}
+use Rattle.messages.specs.declared.types.Message.the-variants.{Open, Revise, Withdraw, Post, Finish, Bill, Pay, Support, OpenCurves, ReviseCurves, Close, OpenSides, ReviseSides, PostSides}
 use Rattle.messages.specs.declared.types.Opening.{Opening}
 use Rattle.messages.specs.declared.types.Funding.{Funding}
 use Rattle.messages.specs.declared.types.Closing.{Closing}
-use Rattle.messages.specs.Plan.{keyOf, openedRecord, postedRecord, laterRecord}
+use Rattle.messages.specs.Plan.{keyOf, openedRecord, postedRecord, laterRecord, zoneKey, postedSide}
 use Rattle.credit.specs.Credit.{suspended}
 use Rattle.batches.specs.Batches.{closedRecord}
 use Rattle.refusals.specs.Answers.{Reply}
@@ -63,6 +64,11 @@ recordSet old (ReviseCurves c) mwhs prices = pendingRecord (c .key) (intervalsOf
 -- a support change names no transaction, and a close an hour: what it leaves is `Closure` below
 recordSet old (Support s) mwhs prices = blank
 recordSet old (Close c) mwhs prices = blank
+-- 02, order 6: 'while bid, the requirement is the greater of ..'; 'Once posted it is the net MWh times the differential of the net side', at the differentials that were bid
+recordSet old (OpenSides s) mwhs prices = sidesRecord (zoneKey (s .zone) (s .hour)) (s .load) (s .supply) (virtualBid (s .load) (s .supply))
+recordSet old (ReviseSides s) mwhs prices = sidesRecord (zoneKey (s .zone) (s .hour)) (s .load) (s .supply) (virtualBid (s .load) (s .supply))
+recordSet old (PostSides p) mwhs prices =
+    sidesPosted old (p .load) (p .supply) (virtualPosted (postedSide (p .load) (old .differential)) (postedSide (p .supply) (old .supply .differential)))
 
 -- the support: 'support (amount)' sets it, and no other message does
 abbrev pub supportSet : ℤ → Message → ℤ
@@ -77,6 +83,9 @@ supportSet was (Support s) = s .cents
 supportSet was (OpenCurves c) = was
 supportSet was (ReviseCurves c) = was
 supportSet was (Close c) = was
+supportSet was (OpenSides s) = was
+supportSet was (ReviseSides s) = was
+supportSet was (PostSides p) = was
 
 -- a close is about an hour; every other message about one transaction, or none
 abbrev pub closes : Message → Bool
@@ -91,6 +100,9 @@ closes (Support s) = false
 closes (OpenCurves c) = false
 closes (ReviseCurves c) = false
 closes (Close c) = true
+closes (OpenSides s) = false
+closes (ReviseSides s) = false
+closes (PostSides p) = false
 
 -- what an open transaction holds; a free place holds nothing
 abbrev pub holds : Record → ℤ
