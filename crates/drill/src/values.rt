@@ -18,7 +18,7 @@ pub(crate) const DIFFERENTIALS: [u64; 8] = [0, 1, 1_200, 1_400, 4_000, 6_000, 99
 const POINT_MWH: [u64; 8] = [0, 1, 27, 61, 100, 500, 9_999, 10_000];
 
 // Whole numbers out of range.
-pub(crate) const KINDS_OUT: [u64; 8] = [0, 6, 7, 8, 9, 10, 11, U64_MAX];
+pub(crate) const KINDS_OUT: [u64; 8] = [0, 7, 8, 9, 10, 11, 12, U64_MAX];
 
 pub(crate) const PATHS_OUT: [u64; 8] = [0, 1_000, 1_001, 1_002, 2_000, 3_000, 4_000, U64_MAX];
 

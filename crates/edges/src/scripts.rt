@@ -12,6 +12,9 @@ use book::Key;
 use book::Opening;
 use book::Posting;
 use book::Record;
+use book::Side;
+use book::Sides;
+use book::SidesPosting;
 use lines::numbers::count;
 use lines::numbers::signed;
 use lines::numbers::whole;
@@ -86,6 +89,33 @@ pub(crate) fn closing(text: &[u8], before: u64) -> Closing {
     }
 }
 
+// A zone and an hour, then MWh and differential of load, and of supply.
+pub(crate) fn sides(text: &[u8]) -> Sides {
+    let load = Side {
+        mwh: whole(text, 2),
+        differential: whole(text, 3),
+    };
+    let supply = Side {
+        mwh: whole(text, 4),
+        differential: whole(text, 5),
+    };
+    Sides {
+        zone: whole(text, 0),
+        hour: whole(text, 1),
+        load,
+        supply,
+    }
+}
+
+pub(crate) fn sides_posting(text: &[u8]) -> SidesPosting {
+    SidesPosting {
+        zone: whole(text, 0),
+        hour: whole(text, 1),
+        load: whole(text, 2),
+        supply: whole(text, 3),
+    }
+}
+
 pub(crate) fn funding(text: &[u8]) -> Funding {
     Funding {
         cents: signed(text, 0),
@@ -112,6 +142,12 @@ pub(crate) fn record(text: &[u8]) -> Record {
     record.intervals.second = second;
     record.intervals.third = third;
     record.intervals.fourth = fourth;
+    let supply = whole(text, 15);
+    let differential = whole(text, 16);
+    let schedule = whole(text, 17);
+    record.supply.mwh = supply;
+    record.supply.differential = differential;
+    record.supply.schedule = schedule;
     record
 }
 

@@ -4,6 +4,7 @@ use intervals::types::Intervals;
 use libc::STDOUT_FILENO;
 use refusals::BidAnswer;
 use refusals::Figure;
+use virtuals::Side;
 
 const U64_MAX: u64 = 18_446_744_073_709_551_615;
 
@@ -191,6 +192,8 @@ fn main() {
     deliveries();
     bills();
     closes();
+    two_sides();
+    sides_at_their_limits();
 }
 
 // The count of points, and lists of unequal length.
@@ -244,34 +247,34 @@ fn differentials() {
 fn kinds() {
     bid(0, 1, 1, 1, 1, 0);
     bid(5, 1, 1, 1, 1, 0);
-    bid(6, 1, 1, 1, 1, 0);
+    bid(7, 1, 1, 1, 1, 0);
     bid(U64_MAX, 1, 1, 1, 1, 0);
     posted(0, 0, 1, 1, 0);
     posted(5, 0, 1, 1, 0);
-    posted(6, 0, 1, 1, 0);
+    posted(7, 0, 1, 1, 0);
     finished(0, 1, 1, 1, 1, 1, 0);
     finished(5, 1, 1, 1, 1, 1, 0);
-    finished(6, 1, 1, 1, 1, 1, 0);
+    finished(7, 1, 1, 1, 1, 1, 0);
     posted(3, 0, 0, 0, 0);
     posted(3, 0, 1, 1, 0);
 }
 
 // Where several apply, the first.
 fn first_refusals() {
-    bid(6, 0, U64_MAX, 65, I64_MIN, U64_MAX);
+    bid(7, 0, U64_MAX, 65, I64_MIN, U64_MAX);
     bid(5, 1, U64_MAX, 1, I64_MIN, U64_MAX);
     bid(3, 1, U64_MAX, 65, I64_MIN, U64_MAX);
     bid(3, 1, U64_MAX, 1, I64_MIN, U64_MAX);
     bid(3, 1, 1, 1, I64_MIN, U64_MAX);
     bid(3, 1, 1, 1, 1, U64_MAX);
-    posted(6, U64_MAX, U64_MAX, I64_MIN, 1);
+    posted(7, U64_MAX, U64_MAX, I64_MIN, 1);
     posted(3, U64_MAX, U64_MAX, I64_MIN, 1);
     posted(3, U64_MAX, 1, 1, 1);
     posted(3, 1, 1, 1, 0);
     posted(5, U64_MAX, U64_MAX, I64_MIN, 1);
     posted(5, U64_MAX, 1, 1, 1);
     posted(5, 1, 1, 1, 0);
-    finished(6, U64_MAX, I64_MIN, -1, U64_MAX, I64_MIN, 1);
+    finished(7, U64_MAX, I64_MIN, -1, U64_MAX, I64_MIN, 1);
     finished(5, 0, 0, -1, U64_MAX, I64_MIN, 1);
     finished(5, 0, 0, -1, 1, 1, 1);
     finished(3, 1, I64_MIN, -1, U64_MAX, I64_MIN, 1);
@@ -417,4 +420,69 @@ fn closes() {
     closed(0, 0, 0, -1_000_001);
     closed(640_000, 640_000, I64_MIN, 0);
     closed(640_000, 640_000, 0, I64_MAX);
+}
+
+fn side(word: &[u8], side: Side) {
+    whole(word, side.mwh);
+    whole(b" at ", side.differential);
+}
+
+// While bid, and once posted.
+fn sides(load_mwh: u64, load_differential: u64, supply_mwh: u64, supply_differential: u64) {
+    let load = Side {
+        mwh: load_mwh,
+        differential: load_differential,
+    };
+    let supply = Side {
+        mwh: supply_mwh,
+        differential: supply_differential,
+    };
+    print(b"sides bid");
+    side(b" load ", load);
+    side(b" supply ", supply);
+    figure(virtuals::bid(load, supply));
+    print(b"sides posted");
+    side(b" load ", load);
+    side(b" supply ", supply);
+    figure(virtuals::posted(load, supply));
+}
+
+// Kind 6 has no curve, no post and no finish of document 01's.
+fn two_sides() {
+    bid(6, 1, 1, 1, 1, 0);
+    posted(6, 0, 1, 1, 0);
+    posted(6, 1_000_000, 640_000, 1, 0);
+    posted(6, 1_000_001, 1, 1, 0);
+    finished(6, 1, 1, 1, 1, 1, 0);
+    finished(
+        6,
+        640_000,
+        1_000_000,
+        640_000_000_000,
+        640_000,
+        -1_000_000,
+        0,
+    );
+    finished(6, 1, 1, 1, 1, 1, 1);
+}
+
+fn sides_at_their_limits() {
+    sides(0, 0, 0, 0);
+    sides(1, 2, 2, 1);
+    sides(2, 1, 1, 2);
+    sides(10_000, 1_000_000, 10_000, 1_000_000);
+    sides(10_000, 1_000_000, 0, 0);
+    sides(0, 0, 10_000, 1_000_000);
+    sides(10_000, 1_000_000, 9_999, 1_000_000);
+    sides(9_999, 1_000_000, 10_000, 1_000_000);
+    sides(10_000, 0, 1, 1_000_000);
+    sides(1, 1_000_000, 10_000, 0);
+    sides(10_001, 0, 0, 0);
+    sides(0, 0, 10_001, 0);
+    sides(0, 1_000_001, 0, 0);
+    sides(0, 0, 0, 1_000_001);
+    sides(10_001, 1_000_001, 0, 0);
+    sides(U64_MAX, U64_MAX, U64_MAX, U64_MAX);
+    sides(10_000, U64_MAX, 0, 0);
+    sides(0, 0, 10_000, U64_MAX);
 }
