@@ -2,7 +2,8 @@
 //! prints is what that program must write.
 
 use reference::book::{
-    Bill, Closing, Curves, Finish, Opening, Payment, Posting, Revision, Support, Withdrawal,
+    Bill, Closing, Curves, Finish, Opening, Payment, Posting, Revision, Side, Sides, SidesPosting,
+    Supply, Support, Withdrawal,
 };
 use reference::{Answer, Book, Key, Message, Record};
 
@@ -18,7 +19,8 @@ fn main() {
 /// What the book answers to a line, by its first word: "a" fresh book, a
 /// look at the book, a change that no message makes, or a message.
 fn answered(book: &mut Book, line: &str) -> String {
-    let word = line.split(' ').next().unwrap_or_default();
+    let mut words = line.split(' ');
+    let word = words.next().unwrap_or_default();
     let numbers = Numbers::of(line);
     match word {
         "a" => {
@@ -46,15 +48,21 @@ fn answered(book: &mut Book, line: &str) -> String {
         }
         "look" => fields(&book.records[numbers.place()]),
         "sums" => sums(book),
-        _ => match message(word, &numbers) {
-            Some(message) => {
-                let (listed, prices) = numbers.lists(word);
-                let before = book.clone();
-                let answer = book.apply(message, &listed, &prices);
-                shown(&before, book, answer)
+        _ => {
+            let message = match word {
+                "zone" => zone_message(words.next().unwrap_or_default(), &numbers),
+                _ => message(word, &numbers),
+            };
+            match message {
+                Some(message) => {
+                    let (listed, prices) = numbers.lists(word);
+                    let before = book.clone();
+                    let answer = book.apply(message, &listed, &prices);
+                    shown(&before, book, answer)
+                }
+                None => String::new(),
             }
-            None => String::new(),
-        },
+        }
     }
 }
 
@@ -108,6 +116,24 @@ fn message(word: &str, numbers: &Numbers) -> Option<Message> {
     Some(message)
 }
 
+/// The message of two sides, order 6, by the second word of its line: zone,
+/// hour, and MWh and differential of load and then of supply; of a post zone,
+/// hour and the MWh of each.
+fn zone_message(word: &str, numbers: &Numbers) -> Option<Message> {
+    let message = match word {
+        "open" => Message::OpenSides(numbers.sides()),
+        "revise" => Message::ReviseSides(numbers.sides()),
+        "post" => Message::PostSides(SidesPosting {
+            zone: numbers.whole(0),
+            hour: numbers.whole(1),
+            load: numbers.whole(2),
+            supply: numbers.whole(3),
+        }),
+        _ => return None,
+    };
+    Some(message)
+}
+
 fn shown(before: &Book, after: &Book, answer: Answer) -> String {
     format!(
         ": {} {} {} {}{}{}",
@@ -131,8 +157,14 @@ fn compared(before: &Book, after: &Book) -> &'static str {
 fn fields(record: &Record) -> String {
     let Key { kind, path, hour } = record.key;
     let [first, second, third, fourth] = record.intervals;
+    let Supply {
+        mwh,
+        differential,
+        schedule,
+    } = record.supply;
     format!(
-        ": {kind} {path} {hour} {} {} {} {} {} {} {} {first} {second} {third} {fourth}",
+        ": {kind} {path} {hour} {} {} {} {} {} {} {} {first} {second} {third} {fourth} \
+         {mwh} {differential} {schedule}",
         record.stage,
         record.bid_mwh,
         record.differential,
@@ -199,6 +231,11 @@ impl Numbers {
             day_ahead_price: self.signed(9),
             requirement: self.signed(10),
             intervals: self.four(11),
+            supply: Supply {
+                mwh: self.whole(15),
+                differential: self.whole(16),
+                schedule: self.whole(17),
+            },
         }
     }
 
@@ -211,6 +248,23 @@ impl Numbers {
         Curves {
             key: self.key(0),
             counts: self.four(3),
+        }
+    }
+
+    /// A zone, an hour and two sides.
+    fn sides(&self) -> Sides {
+        Sides {
+            zone: self.whole(0),
+            hour: self.whole(1),
+            load: self.side(2),
+            supply: self.side(4),
+        }
+    }
+
+    fn side(&self, at: usize) -> Side {
+        Side {
+            mwh: self.whole(at),
+            differential: self.whole(at + 1),
         }
     }
 
@@ -237,6 +291,7 @@ impl Numbers {
                 let prices = vec![self.signed(4); self.whole(3) as usize];
                 ((0..self.whole(0)).map(path).collect(), prices)
             }
+            "zone" => (Vec::new(), Vec::new()),
             _ => self.points(5),
         }
     }

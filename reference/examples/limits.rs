@@ -1,7 +1,7 @@
 //! The formulas at the limits of document 01's numbers and past them. What it
 //! prints is what the program `limits` must write.
 
-use reference::formulas;
+use reference::formulas::{self, Side};
 use reference::limits;
 use reference::refusal::Refusal;
 
@@ -21,6 +21,8 @@ fn main() {
     deliveries();
     bills();
     closes();
+    virtual_kind();
+    virtual_sides();
 }
 
 /// The count of points, and lists of unequal length.
@@ -70,39 +72,39 @@ fn differentials() {
     posted(4, 1, 1, 0, 0);
 }
 
-/// The kind; a bid of kind 5 has four curves, and posting is not for kinds 3
-/// and 5.
+/// The kind, of which 7 is the first that is none; a bid of kind 5 has four
+/// curves, and posting is not for kinds 3 and 5.
 fn kinds() {
     bid(0, 1, 1, 1, 1, 0);
     bid(5, 1, 1, 1, 1, 0);
-    bid(6, 1, 1, 1, 1, 0);
+    bid(7, 1, 1, 1, 1, 0);
     bid(u64::MAX, 1, 1, 1, 1, 0);
     posted(0, 0, 1, 1, 0);
     posted(5, 0, 1, 1, 0);
-    posted(6, 0, 1, 1, 0);
+    posted(7, 0, 1, 1, 0);
     finished(0, 1, 1, 1, 1, 1, 0);
     finished(5, 1, 1, 1, 1, 1, 0);
-    finished(6, 1, 1, 1, 1, 1, 0);
+    finished(7, 1, 1, 1, 1, 1, 0);
     posted(3, 0, 0, 0, 0);
     posted(3, 0, 1, 1, 0);
 }
 
 /// Where several apply, the first.
 fn first_refusals() {
-    bid(6, 0, u64::MAX, 65, i64::MIN, u64::MAX);
+    bid(7, 0, u64::MAX, 65, i64::MIN, u64::MAX);
     bid(5, 1, u64::MAX, 1, i64::MIN, u64::MAX);
     bid(3, 1, u64::MAX, 65, i64::MIN, u64::MAX);
     bid(3, 1, u64::MAX, 1, i64::MIN, u64::MAX);
     bid(3, 1, 1, 1, i64::MIN, u64::MAX);
     bid(3, 1, 1, 1, 1, u64::MAX);
-    posted(6, u64::MAX, u64::MAX, i64::MIN, 1);
+    posted(7, u64::MAX, u64::MAX, i64::MIN, 1);
     posted(3, u64::MAX, u64::MAX, i64::MIN, 1);
     posted(3, u64::MAX, 1, 1, 1);
     posted(3, 1, 1, 1, 0);
     posted(5, u64::MAX, u64::MAX, i64::MIN, 1);
     posted(5, u64::MAX, 1, 1, 1);
     posted(5, 1, 1, 1, 0);
-    finished(6, u64::MAX, i64::MIN, -1, u64::MAX, i64::MIN, 1);
+    finished(7, u64::MAX, i64::MIN, -1, u64::MAX, i64::MIN, 1);
     finished(5, 0, 0, -1, u64::MAX, i64::MIN, 1);
     finished(5, 0, 0, -1, 1, 1, 1);
     finished(3, 1, i64::MIN, -1, u64::MAX, i64::MIN, 1);
@@ -250,6 +252,47 @@ fn closes() {
     closed(640_000, 640_000, 0, i64::MAX);
 }
 
+/// Kind 6 where it is asked as the others are.
+fn virtual_kind() {
+    bid(6, 1, 1, 1, 1, 0);
+    posted(6, 0, 1, 1, 0);
+    posted(6, 1_000_000, 640_000, 1, 0);
+    posted(6, 1_000_001, 1, 1, 0);
+    finished(6, 1, 1, 1, 1, 1, 0);
+    finished(
+        6,
+        640_000,
+        1_000_000,
+        640_000_000_000,
+        640_000,
+        -1_000_000,
+        0,
+    );
+    finished(6, 1, 1, 1, 1, 1, 1);
+}
+
+/// The two sides of kind 6, bid and posted.
+fn virtual_sides() {
+    sides(0, 0, 0, 0);
+    sides(1, 2, 2, 1);
+    sides(2, 1, 1, 2);
+    sides(10_000, 1_000_000, 10_000, 1_000_000);
+    sides(10_000, 1_000_000, 0, 0);
+    sides(0, 0, 10_000, 1_000_000);
+    sides(10_000, 1_000_000, 9_999, 1_000_000);
+    sides(9_999, 1_000_000, 10_000, 1_000_000);
+    sides(10_000, 0, 1, 1_000_000);
+    sides(1, 1_000_000, 10_000, 0);
+    sides(10_001, 0, 0, 0);
+    sides(0, 0, 10_001, 0);
+    sides(0, 1_000_001, 0, 0);
+    sides(0, 0, 0, 1_000_001);
+    sides(10_001, 1_000_001, 0, 0);
+    sides(u64::MAX, u64::MAX, u64::MAX, u64::MAX);
+    sides(10_000, u64::MAX, 0, 0);
+    sides(0, 0, 10_000, u64::MAX);
+}
+
 fn bid(kind: u64, quantities: usize, mwh: u64, priced: usize, price: i64, differential: u64) {
     let (list, prices) = (vec![mwh; quantities], vec![price; priced]);
     print!("bid kind {kind} with {quantities} times {mwh} MWh and {priced} times price {price}");
@@ -306,6 +349,26 @@ fn closed(mwh: u64, others: u64, price: i64, other_prices: i64) {
     let sums = [mwh, others, others, others];
     let prices = [price, other_prices, other_prices, other_prices];
     answered(closed_amount(sums, prices));
+}
+
+/// MWh and differential of load, then of supply: the bid, and then as much
+/// posted.
+fn sides(load_mwh: u64, load_differential: u64, supply_mwh: u64, supply_differential: u64) {
+    let load = Side {
+        mwh: load_mwh,
+        differential: load_differential,
+    };
+    let supply = Side {
+        mwh: supply_mwh,
+        differential: supply_differential,
+    };
+    let line = format!(
+        "load {load_mwh} at {load_differential} supply {supply_mwh} at {supply_differential}"
+    );
+    print!("sides bid {line}");
+    answered(formulas::virtual_bid(load, supply));
+    print!("sides posted {line}");
+    answered(formulas::virtual_posted(load, supply));
 }
 
 fn answered(amount: Result<i128, Refusal>) {
@@ -378,6 +441,8 @@ fn finished_amount(
         2 => formulas::export_finished(posted, schedule, actual, price),
         3 => formulas::hour_ahead_export_finished(actual, price),
         5 => formulas::quarter_hour_export_finished(actual, price),
+        // "There is no finish" (02, order 6).
+        6 => 0,
         _ => formulas::wheel_finished(posted, schedule, actual, difference),
     })
 }
@@ -402,21 +467,22 @@ fn require(holds: bool, refusal: Refusal) -> Result<(), Refusal> {
     }
 }
 
-/// "Kinds run to 5" (02, order 3).
+/// "Kinds run to 6" (02, order 6).
 fn check_kind(kind: u64) -> Result<(), Refusal> {
-    require((1..=5).contains(&kind), Refusal::Kind)
+    require((1..=6).contains(&kind), Refusal::Kind)
 }
 
 /// "A kind 5: Hour-Ahead export bids with four interval curves" (02, order 3).
-/// One curve is not a count of points that it can have.
+/// One curve is not a count of points that it can have. Kind 6 has none: "no
+/// points or prices" (02, order 6).
 fn check_one_curve(kind: u64) -> Result<(), Refusal> {
-    require(kind != 5, Refusal::Points)
+    require(kind != 5 && kind != 6, Refusal::Points)
 }
 
 /// Post "is not for kind 3 (refusal 12)"; "12 for posting kind 5" (02,
-/// order 3).
+/// order 3). Kind 6 is posted with two sides (02, order 6).
 fn check_posting(kind: u64) -> Result<(), Refusal> {
-    require(kind != 3 && kind != 5, Refusal::WrongStage)
+    require(!matches!(kind, 3 | 5 | 6), Refusal::WrongStage)
 }
 
 fn check_points(mwh: &[u64], prices: &[i64]) -> Result<(), Refusal> {
@@ -433,17 +499,18 @@ fn check_price_list(prices: &[i64]) -> Result<(), Refusal> {
 }
 
 /// "Kinds 1 to 3 use one price in post and finish, and their second must be 0."
-/// So does kind 5.
+/// So do kinds 5 and 6.
 fn check_prices(kind: u64, price: i64, second: i64) -> Result<(), Refusal> {
     let in_range = limits::PRICE.contains(&price) && limits::PRICE.contains(&second);
     require(in_range && (kind == 4 || second == 0), Refusal::Price)
 }
 
 /// "Differential: 0 to 1,000,000; 0 for kinds 3 and 4." Kind 5 "carries no
-/// differential or exempt mark" (02, order 3).
+/// differential or exempt mark" (02, order 3). Kind 6 has one per side (02,
+/// order 6).
 fn check_differential(kind: u64, differential: u64) -> Result<(), Refusal> {
     let range = match kind {
-        1 | 2 => limits::DIFFERENTIAL,
+        1 | 2 | 6 => limits::DIFFERENTIAL,
         _ => limits::NO_DIFFERENTIAL,
     };
     require(range.contains(&differential), Refusal::Differential)

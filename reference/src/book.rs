@@ -1,13 +1,15 @@
-//! The book: its records, its eleven messages and refusals 1 to 16.
+//! The book: its records, its fourteen messages and refusals 1 to 16.
 //!
 //! Kind 5, bids with four interval curves, and the close of an hour are of
-//! document 02, order 3.
+//! document 02, order 3; kind 6, virtual bids with two sides, is of order 6.
 
 use std::collections::{BTreeMap, BTreeSet, HashMap};
 // In the prelude of edition 2021; named so that the default edition builds.
 use std::convert::TryFrom;
+use std::ops::RangeInclusive;
 
 use crate::formulas;
+pub use crate::formulas::Side;
 use crate::limits::{self, INTERVALS};
 use crate::refusal::{require, Refusal};
 
@@ -18,12 +20,17 @@ pub const BID: u64 = 1;
 pub const POSTED: u64 = 2;
 /// "Finish goes from 2 to 3, for kind 3 from 1 to 3."
 pub const FINISHED: u64 = 3;
-/// "Bill goes from 3 to 4."
+/// "Bill goes from 3 to 4", for kind 6 "from 2 to 4" (02, order 6).
 pub const BILLED: u64 = 4;
+
+/// The number of kind 6, which the messages with two sides don't carry.
+pub const VIRTUAL: u64 = 6;
 
 /// "Four kinds: 1 Day-Ahead import, 2 Day-Ahead export, 3 Hour-Ahead export,
 /// 4 Day-Ahead wheel through." And "a kind 5: Hour-Ahead export bids with four
-/// interval curves" (02, order 3).
+/// interval curves" (02, order 3). And "virtual bids by load zone": "Add kind
+/// 6, with path 1 to 11 for zones A to K and both sides in one key" (02,
+/// order 6).
 #[derive(Clone, Copy, Debug, PartialEq, Eq)]
 pub enum Kind {
     /// 1.
@@ -36,11 +43,13 @@ pub enum Kind {
     Wheel,
     /// 5.
     QuarterHourExport,
+    /// 6.
+    Virtual,
 }
 
 impl Kind {
-    /// The kind of a number from 1 to 5, and none otherwise: "kinds run to 5"
-    /// (02, order 3).
+    /// The kind of a number from 1 to 6, and none otherwise: "kinds run to 6"
+    /// (02, order 6).
     pub fn from_number(number: u64) -> Option<Kind> {
         match number {
             1 => Some(Kind::Import),
@@ -48,6 +57,7 @@ impl Kind {
             3 => Some(Kind::HourAheadExport),
             4 => Some(Kind::Wheel),
             5 => Some(Kind::QuarterHourExport),
+            VIRTUAL => Some(Kind::Virtual),
             _ => None,
         }
     }
@@ -57,17 +67,39 @@ impl Kind {
 /// sink pair) and hour (0 to 999,999)."
 #[derive(Clone, Copy, Debug, Default, PartialEq, Eq, Hash)]
 pub struct Key {
-    /// 1 to 5.
+    /// 1 to 6.
     pub kind: u64,
-    /// 1 to 999.
+    /// 1 to 999; for kind 6 the zone, 1 to 11.
     pub path: u64,
     /// 0 to 999,999.
     pub hour: u64,
 }
 
+/// What a record of kind 6 keeps of its supply side; what it keeps of the load
+/// side stands in the fields that every kind has. "Both sides in one key" (02,
+/// order 6).
+#[derive(Clone, Copy, Debug, Default, PartialEq, Eq)]
+pub struct Supply {
+    /// Bid MWh.
+    pub mwh: u64,
+    /// Cents per MWh.
+    pub differential: u64,
+    /// The posted MWh.
+    pub schedule: u64,
+}
+
+impl Supply {
+    /// That of a free place, and of the other kinds.
+    pub const NONE: Supply = Supply {
+        mwh: 0,
+        differential: 0,
+        schedule: 0,
+    };
+}
+
 /// "A record keeps key, stage, bid MWh, differential, exempt mark, schedule,
 /// Day-Ahead price and requirement." And "the record keeps its four MWh sums"
-/// (02, order 3).
+/// (02, order 3). And the supply side of kind 6 (02, order 6).
 #[derive(Clone, Copy, Debug, Default, PartialEq, Eq)]
 pub struct Record {
     /// What the transaction is known by.
@@ -75,20 +107,22 @@ pub struct Record {
     /// 1 bid, 2 posted (for kind 5 closed), 3 finished, 4 billed.
     pub stage: u64,
     /// The largest MWh of any point, for exports the sum of all; 0 for
-    /// kind 5.
+    /// kind 5, and for kind 6 the load side's.
     pub bid_mwh: u64,
-    /// Cents per MWh; 0 for kinds 3 to 5.
+    /// Cents per MWh; 0 for kinds 3 to 5, and for kind 6 the load side's.
     pub differential: u64,
     /// Whether an import is exempt.
     pub exempt: bool,
-    /// The posted schedule, MWh.
+    /// The posted schedule, MWh; for kind 6 the load side's.
     pub schedule: u64,
     /// An import's posted price, cents per MWh.
     pub day_ahead_price: i64,
     /// Signed cents.
     pub requirement: i64,
-    /// The MWh sum of each interval; 0 for kinds 1 to 4.
+    /// The MWh sum of each interval; 0 for every kind but 5.
     pub intervals: [u64; INTERVALS],
+    /// The supply side; 0 throughout for every kind but 6.
+    pub supply: Supply,
 }
 
 impl Record {
@@ -107,6 +141,7 @@ impl Record {
         day_ahead_price: 0,
         requirement: 0,
         intervals: [0; INTERVALS],
+        supply: Supply::NONE,
     };
 
     /// Whether the place holds no record.
@@ -118,7 +153,7 @@ impl Record {
     fn is_sound(&self) -> bool {
         match Kind::from_number(self.key.kind) {
             Some(kind) => {
-                self.key_is_sound()
+                self.key_is_sound(kind)
                     && self.stage_is_sound(kind)
                     && self.bid_mwh_is_sound(kind)
                     && differential_range(kind).contains(&self.differential)
@@ -127,29 +162,37 @@ impl Record {
                     && self.day_ahead_price_is_sound(kind)
                     && self.requirement_is_sound(kind)
                     && self.intervals_are_sound(kind)
+                    && self.supply_is_sound(kind)
             }
             None => false,
         }
     }
 
     /// "Every field is in its range": the key's.
-    fn key_is_sound(&self) -> bool {
-        limits::PATH.contains(&self.key.path) && limits::HOUR.contains(&self.key.hour)
+    fn key_is_sound(&self, kind: Kind) -> bool {
+        path_range(kind).contains(&self.key.path) && limits::HOUR.contains(&self.key.hour)
     }
 
-    /// "Stages are 1 to 4 (never 2 for kind 3)."
+    /// "Stages are 1 to 4 (never 2 for kind 3)." Kind 6: "there is no finish"
+    /// (02, order 6).
     fn stage_is_sound(&self, kind: Kind) -> bool {
-        (BID..=BILLED).contains(&self.stage)
-            && !(kind == Kind::HourAheadExport && self.stage == POSTED)
+        let left_out = match kind {
+            Kind::HourAheadExport => self.stage == POSTED,
+            Kind::Virtual => self.stage == FINISHED,
+            Kind::Import | Kind::Export | Kind::Wheel | Kind::QuarterHourExport => false,
+        };
+        (BID..=BILLED).contains(&self.stage) && !left_out
     }
 
     /// "Bid MWh is at most 10,000 for kinds 1 and 4 and 640,000 otherwise."
-    /// Kind 5: "these and bid MWh are 0" (02, order 3).
+    /// Kind 5: "these and bid MWh are 0" (02, order 3). Kind 6: "each side's
+    /// MWh is at most 10,000" (02, order 6).
     fn bid_mwh_is_sound(&self, kind: Kind) -> bool {
         match kind {
             Kind::Import | Kind::Wheel => limits::LARGEST_BID_MWH.contains(&self.bid_mwh),
             Kind::Export | Kind::HourAheadExport => limits::SUMMED_BID_MWH.contains(&self.bid_mwh),
             Kind::QuarterHourExport => self.bid_mwh == 0,
+            Kind::Virtual => limits::SIDE_MWH.contains(&self.bid_mwh),
         }
     }
 
@@ -199,6 +242,21 @@ impl Record {
         }
     }
 
+    /// The supply side, which is kind 6's alone: "each side's MWh is at most
+    /// 10,000, and posted sides can't exceed bid sides" (02, order 6). Nothing
+    /// is posted at stage 1.
+    fn supply_is_sound(&self, kind: Kind) -> bool {
+        if kind == Kind::Virtual {
+            let supply = &self.supply;
+            limits::SIDE_MWH.contains(&supply.mwh)
+                && limits::DIFFERENTIAL.contains(&supply.differential)
+                && supply.schedule <= supply.mwh
+                && (supply.schedule == 0 || self.stage != BID)
+        } else {
+            self.supply == Supply::NONE
+        }
+    }
+
     /// Whether it is a kind 5 bid of this hour that is not closed yet.
     fn is_pending_in(&self, hour: u64) -> bool {
         Kind::from_number(self.key.kind) == Some(Kind::QuarterHourExport)
@@ -207,11 +265,21 @@ impl Record {
     }
 }
 
-/// "Differential: 0 to 1,000,000; 0 for kinds 3 and 4." Kind 5 "carries no
-/// differential or exempt mark" (02, order 3).
-fn differential_range(kind: Kind) -> std::ops::RangeInclusive<u64> {
+/// "Path (1 to 999, a source and sink pair)"; kind 6 "with path 1 to 11 for
+/// zones A to K" (02, order 6).
+fn path_range(kind: Kind) -> RangeInclusive<u64> {
     match kind {
-        Kind::Import | Kind::Export => limits::DIFFERENTIAL,
+        Kind::Virtual => limits::ZONE,
+        _ => limits::PATH,
+    }
+}
+
+/// "Differential: 0 to 1,000,000; 0 for kinds 3 and 4." Kind 5 "carries no
+/// differential or exempt mark" (02, order 3). Kind 6 has one per side (02,
+/// order 6).
+fn differential_range(kind: Kind) -> RangeInclusive<u64> {
+    match kind {
+        Kind::Import | Kind::Export | Kind::Virtual => limits::DIFFERENTIAL,
         Kind::HourAheadExport | Kind::Wheel | Kind::QuarterHourExport => limits::NO_DIFFERENTIAL,
     }
 }
@@ -321,6 +389,46 @@ pub struct Closing {
     pub hour: u64,
 }
 
+/// Open or revise of a virtual bid: "Open and revise carry MWh and differential
+/// per side" (02, order 6).
+///
+/// Kind 6 is the message's by its case, and the zone is the key's path. Lists
+/// that stand beside the message are passed over: "no points or prices".
+#[derive(Clone, Copy, Debug, PartialEq, Eq)]
+pub struct Sides {
+    /// 1 to 11, for zones A to K.
+    pub zone: u64,
+    /// The hour to open or to revise.
+    pub hour: u64,
+    /// Virtual load.
+    pub load: Side,
+    /// Virtual supply.
+    pub supply: Side,
+}
+
+/// Post of a virtual bid: "post MWh per side, no points or prices" (02,
+/// order 6).
+#[derive(Clone, Copy, Debug, PartialEq, Eq)]
+pub struct SidesPosting {
+    /// 1 to 11, for zones A to K.
+    pub zone: u64,
+    /// The hour posted.
+    pub hour: u64,
+    /// MWh of virtual load.
+    pub load: u64,
+    /// MWh of virtual supply.
+    pub supply: u64,
+}
+
+/// The key of a zone and an hour: "both sides in one key" (02, order 6).
+fn zone_key(zone: u64, hour: u64) -> Key {
+    Key {
+        kind: VIRTUAL,
+        path: zone,
+        hour,
+    }
+}
+
 /// "Each message is one case with its own set of values."
 #[derive(Clone, Copy, Debug, PartialEq, Eq)]
 pub enum Message {
@@ -346,6 +454,12 @@ pub enum Message {
     ReviseCurves(Curves),
     /// Closes an hour: its pending bids, as one batch.
     Close(Closing),
+    /// Opens a virtual bid, with both its sides.
+    OpenSides(Sides),
+    /// Replaces both sides of an open virtual bid.
+    ReviseSides(Sides),
+    /// Brings the posted MWh of both sides.
+    PostSides(SidesPosting),
 }
 
 /// What a message is answered.
@@ -558,6 +672,9 @@ impl Book {
             Message::OpenCurves(curves) => self.open_curves(&directory, curves, curve),
             Message::ReviseCurves(curves) => self.revise_curves(&directory, curves, curve),
             Message::Close(closing) => self.close(closing, numbers, prices),
+            Message::OpenSides(sides) => self.open_sides(&directory, sides),
+            Message::ReviseSides(sides) => self.revise_sides(&directory, sides),
+            Message::PostSides(posting) => self.post_sides(&directory, posting),
         };
         if outcome.is_ok() {
             self.keep_totals();
@@ -585,16 +702,22 @@ impl Book {
     fn open(&mut self, directory: &Directory, opening: Opening, curve: Curve) -> Outcome {
         let key = opening.key;
         let group = Group::read(key, curve, opening.differential, opening.exempt)?;
-        require(!directory.contains_key(&key), Refusal::KeyAlreadyOpen)?;
+        self.enter(directory, group.record(key))
+    }
+
+    /// Puts a new record in the book: refusals 10, 14, 15 and 16.
+    fn enter(&mut self, directory: &Directory, record: Record) -> Outcome {
+        let taken = directory.contains_key(&record.key);
+        require(!taken, Refusal::KeyAlreadyOpen)?;
         require(!self.is_suspended(), Refusal::Suspended)?;
         let place = self.lowest_free_place().ok_or(Refusal::BookFull)?;
-        let held_afterwards = i128::from(self.held) + i128::from(group.requirement);
+        let held_afterwards = i128::from(self.held) + i128::from(record.requirement);
         require(
             held_afterwards <= i128::from(self.support),
             Refusal::AboveSupport,
         )?;
-        self.records[place] = group.record(key);
-        stands(group.requirement)
+        self.records[place] = record;
+        stands(record.requirement)
     }
 
     /// "A new record takes the lowest free place."
@@ -606,15 +729,49 @@ impl Book {
     fn revise(&mut self, directory: &Directory, revision: Revision, curve: Curve) -> Outcome {
         let key = revision.key;
         let group = Group::read(key, curve, revision.differential, revision.exempt)?;
-        let place = self.place_at_stage(directory, key, BID)?;
+        self.replace(directory, group.record(key))
+    }
+
+    /// Puts a record at stage 1 in the place of the one with its key:
+    /// refusals 11, 12, 14 and 16.
+    fn replace(&mut self, directory: &Directory, record: Record) -> Outcome {
+        let place = self.place_at_stage(directory, record.key, BID)?;
         require(!self.is_suspended(), Refusal::Suspended)?;
         let old = self.records[place].requirement;
-        let new = group.requirement;
+        let new = record.requirement;
         let held_afterwards = i128::from(self.held) - i128::from(old) + i128::from(new);
         let above_support = held_afterwards > i128::from(self.support);
         require(!(new > old && above_support), Refusal::AboveSupport)?;
-        self.records[place] = group.record(key);
+        self.records[place] = record;
         stands(new)
+    }
+
+    /// Open with two sides: refusals 3, 4, 6, 8, 10, 14, 15 and 16.
+    fn open_sides(&mut self, directory: &Directory, sides: Sides) -> Outcome {
+        self.enter(directory, sides_record(sides)?)
+    }
+
+    /// Revise with two sides: refusals 3, 4, 6, 8, 11, 12, 14 and 16.
+    fn revise_sides(&mut self, directory: &Directory, sides: Sides) -> Outcome {
+        self.replace(directory, sides_record(sides)?)
+    }
+
+    /// Post of two sides: refusals 3, 4, 6, 11, 12 and 13, "13 for either
+    /// side": "posted sides can't exceed bid sides" (02, order 6).
+    fn post_sides(&mut self, directory: &Directory, posting: SidesPosting) -> Outcome {
+        let key = zone_key(posting.zone, posting.hour);
+        check_key(key)?;
+        formulas::check_side_mwh(posting.load, posting.supply)?;
+        let place = self.place_at_stage(directory, key, BID)?;
+        let record = &mut self.records[place];
+        let within = posting.load <= record.bid_mwh && posting.supply <= record.supply.mwh;
+        require(within, Refusal::ScheduleAboveBid)?;
+        let requirement = cents(posted_sides_requirement(record, &posting)?);
+        record.stage = POSTED;
+        record.schedule = posting.load;
+        record.supply.schedule = posting.supply;
+        record.requirement = requirement;
+        stands(requirement)
     }
 
     /// Open with four curves: refusals 2 to 7, 10, 14 and 15; "16 never for
@@ -718,8 +875,12 @@ impl Book {
         let kind = check_key(finish.key)?;
         require(limits::MWH.contains(&finish.actual), Refusal::Quantity)?;
         check_two_prices(kind, finish.first_price, finish.second_price)?;
-        let place = self.place_at_stage(directory, finish.key, stage_before_finish(kind))?;
+        let place = self.place_of(directory, finish.key)?;
         let record = &mut self.records[place];
+        require(
+            Some(record.stage) == stage_before_finish(kind),
+            Refusal::WrongStage,
+        )?;
         record.requirement = cents(finished_requirement(kind, record, &finish));
         record.stage = FINISHED;
         stands(record.requirement)
@@ -728,9 +889,9 @@ impl Book {
     /// Bill: refusals 2, 3, 4, 9, 11 and 12. "Billed, every kind: the bill,
     /// signed."
     fn bill(&mut self, directory: &Directory, bill: Bill) -> Outcome {
-        check_key(bill.key)?;
+        let kind = check_key(bill.key)?;
         require(limits::BILL.contains(&bill.amount), Refusal::Amount)?;
-        let place = self.place_at_stage(directory, bill.key, FINISHED)?;
+        let place = self.place_at_stage(directory, bill.key, stage_before_bill(kind))?;
         let record = &mut self.records[place];
         record.stage = BILLED;
         record.requirement = bill.amount;
@@ -752,6 +913,11 @@ impl Book {
         stands(0)
     }
 
+    /// The place of an open key: refusal 11 when the key is not open.
+    fn place_of(&self, directory: &Directory, key: Key) -> Result<usize, Refusal> {
+        directory.get(&key).copied().ok_or(Refusal::KeyNotOpen)
+    }
+
     /// The place of an open key at the stage that a message needs: refusal 11
     /// when the key is not open, 12 when the stage is another.
     fn place_at_stage(
@@ -760,7 +926,7 @@ impl Book {
         key: Key,
         stage: u64,
     ) -> Result<usize, Refusal> {
-        let &place = directory.get(&key).ok_or(Refusal::KeyNotOpen)?;
+        let place = self.place_of(directory, key)?;
         require(self.records[place].stage == stage, Refusal::WrongStage)?;
         Ok(place)
     }
@@ -786,16 +952,16 @@ fn whole_mwh(mwh: i128) -> u64 {
     u64::try_from(mwh).expect("MWh of points in range fit")
 }
 
-/// Refusals 2, 3 and 4, in this order.
+/// Refusals 2, 3 and 4, in this order. "3 above zone 11" (02, order 6).
 fn check_key(key: Key) -> Result<Kind, Refusal> {
     let kind = Kind::from_number(key.kind).ok_or(Refusal::Kind)?;
-    require(limits::PATH.contains(&key.path), Refusal::Path)?;
+    require(path_range(kind).contains(&key.path), Refusal::Path)?;
     require(limits::HOUR.contains(&key.hour), Refusal::Hour)?;
     Ok(kind)
 }
 
 /// Refusal 7 of post and finish: "Kinds 1 to 3 use one price in post and
-/// finish, and their second must be 0." So does kind 5.
+/// finish, and their second must be 0." So do kinds 5 and 6.
 fn check_two_prices(kind: Kind, first: i64, second: i64) -> Result<(), Refusal> {
     let in_range = limits::PRICE.contains(&first) && limits::PRICE.contains(&second);
     let second_fits = kind == Kind::Wheel || second == 0;
@@ -898,6 +1064,41 @@ fn interval_sums(counts: &[u64; INTERVALS], mwh: &[u64]) -> [u64; INTERVALS] {
     })
 }
 
+/// Refusals 3, 4, 6 and 8 of open and revise with two sides, in this order, and
+/// then the record of the bid (02, order 6).
+fn sides_record(sides: Sides) -> Result<Record, Refusal> {
+    let key = zone_key(sides.zone, sides.hour);
+    check_key(key)?;
+    let requirement = cents(formulas::virtual_bid(sides.load, sides.supply)?);
+    Ok(Record {
+        key,
+        stage: BID,
+        bid_mwh: sides.load.mwh,
+        differential: sides.load.differential,
+        requirement,
+        supply: Supply {
+            mwh: sides.supply.mwh,
+            differential: sides.supply.differential,
+            schedule: 0,
+        },
+        ..Record::FREE
+    })
+}
+
+/// The requirement of a virtual bid at stage 2: posted MWh, and the
+/// differentials on record.
+fn posted_sides_requirement(record: &Record, posting: &SidesPosting) -> Result<i128, Refusal> {
+    let load = Side {
+        mwh: posting.load,
+        differential: record.differential,
+    };
+    let supply = Side {
+        mwh: posting.supply,
+        differential: record.supply.differential,
+    };
+    formulas::virtual_posted(load, supply)
+}
+
 /// "All bids of one key are one group": what open and revise put on record.
 struct Group {
     bid_mwh: u64,
@@ -910,8 +1111,7 @@ impl Group {
     /// Refusals 2 to 8, in this order, and then the requirement at stage 1.
     fn read(key: Key, curve: Curve, differential: u64, exempt: bool) -> Result<Group, Refusal> {
         let kind = check_key(key)?;
-        // Kind 5 has four curves, and one is no form of its bid.
-        require(kind != Kind::QuarterHourExport, Refusal::Points)?;
+        require(has_one_curve(kind), Refusal::Points)?;
         curve.check()?;
         require(
             differential_range(kind).contains(&differential),
@@ -941,17 +1141,23 @@ impl Group {
     }
 }
 
-/// The largest MWh of any point, for exports the sum of all; 0 for kind 5,
-/// which has no group of one curve.
+/// Kind 5 has four curves, and kind 6 "no points or prices" (02, order 6): one
+/// curve is no form of their bids.
+fn has_one_curve(kind: Kind) -> bool {
+    kind != Kind::QuarterHourExport && kind != Kind::Virtual
+}
+
+/// The largest MWh of any point, for exports the sum of all; 0 for kinds 5
+/// and 6, which have no group of one curve.
 fn bid_mwh(kind: Kind, curve: Curve) -> i128 {
     match kind {
         Kind::Import | Kind::Wheel => formulas::largest_mwh(curve.mwh),
         Kind::Export | Kind::HourAheadExport => formulas::sum_of_mwh(curve.mwh),
-        Kind::QuarterHourExport => 0,
+        Kind::QuarterHourExport | Kind::Virtual => 0,
     }
 }
 
-/// The requirement at stage 1.
+/// The requirement at stage 1 of a group of one curve.
 fn bid_requirement(kind: Kind, curve: Curve, differential: u64, exempt: bool) -> i128 {
     let Curve { mwh, prices } = curve;
     let differential = i128::from(differential);
@@ -960,12 +1166,12 @@ fn bid_requirement(kind: Kind, curve: Curve, differential: u64, exempt: bool) ->
         Kind::Export => formulas::export_bid(mwh, prices, differential),
         Kind::HourAheadExport => formulas::hour_ahead_export_bid(mwh, prices),
         Kind::Wheel => formulas::wheel_bid(mwh, prices),
-        Kind::QuarterHourExport => 0,
+        Kind::QuarterHourExport | Kind::Virtual => 0,
     }
 }
 
 /// The requirement at stage 2. Post "is not for kind 3 (refusal 12)"; and "12
-/// for posting kind 5" (02, order 3).
+/// for posting kind 5" (02, order 3). Kind 6 is posted per side (02, order 6).
 fn posted_requirement(kind: Kind, record: &Record, posting: &Posting) -> Result<i128, Refusal> {
     let schedule = i128::from(posting.schedule);
     let differential = i128::from(record.differential);
@@ -978,7 +1184,7 @@ fn posted_requirement(kind: Kind, record: &Record, posting: &Posting) -> Result<
             record.exempt,
         )),
         Kind::Export => Ok(formulas::export_posted(schedule, first, differential)),
-        Kind::HourAheadExport | Kind::QuarterHourExport => Err(Refusal::WrongStage),
+        Kind::HourAheadExport | Kind::QuarterHourExport | Kind::Virtual => Err(Refusal::WrongStage),
         Kind::Wheel => {
             let difference = formulas::difference(first, second);
             Ok(formulas::wheel_posted(schedule, difference))
@@ -987,16 +1193,25 @@ fn posted_requirement(kind: Kind, record: &Record, posting: &Posting) -> Result<
 }
 
 /// "Finish goes from 2 to 3, for kind 3 from 1 to 3"; kind 5 "from stage 2"
-/// (02, order 3).
-fn stage_before_finish(kind: Kind) -> u64 {
+/// (02, order 3). Kind 6: "there is no finish"; "12 for finish" (02, order 6).
+fn stage_before_finish(kind: Kind) -> Option<u64> {
     match kind {
-        Kind::HourAheadExport => BID,
-        Kind::Import | Kind::Export | Kind::Wheel | Kind::QuarterHourExport => POSTED,
+        Kind::HourAheadExport => Some(BID),
+        Kind::Import | Kind::Export | Kind::Wheel | Kind::QuarterHourExport => Some(POSTED),
+        Kind::Virtual => None,
     }
 }
 
-/// The requirement at stage 3. "The posted amount, here and for wheels, is
-/// the requirement that the record holds at stage 2."
+/// "Bill goes from 3 to 4"; for kind 6 "bill goes from 2 to 4" (02, order 6).
+fn stage_before_bill(kind: Kind) -> u64 {
+    match kind {
+        Kind::Virtual => POSTED,
+        _ => FINISHED,
+    }
+}
+
+/// The requirement at stage 3, which kind 6 doesn't have. "The posted amount,
+/// here and for wheels, is the requirement that the record holds at stage 2."
 fn finished_requirement(kind: Kind, record: &Record, finish: &Finish) -> i128 {
     let posted = i128::from(record.requirement);
     let schedule = i128::from(record.schedule);
@@ -1011,6 +1226,7 @@ fn finished_requirement(kind: Kind, record: &Record, finish: &Finish) -> i128 {
         Kind::Export => formulas::export_finished(posted, schedule, actual, first),
         Kind::HourAheadExport => formulas::hour_ahead_export_finished(actual, first),
         Kind::QuarterHourExport => formulas::quarter_hour_export_finished(actual, first),
+        Kind::Virtual => 0,
         Kind::Wheel => {
             let difference = formulas::difference(first, second);
             formulas::wheel_finished(posted, schedule, actual, difference)

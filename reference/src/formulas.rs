@@ -2,9 +2,13 @@
 //!
 //! MWh, prices, differentials and amounts come as `i128`, so that no product
 //! of values in their ranges comes near the end of the type. A curve's two
-//! lists are of equal length here.
+//! lists are of equal length here. The two sides of a virtual bid come as
+//! they are written, and are turned away when out of range.
 
-use std::cmp::max;
+use std::cmp::{max, Ordering};
+
+use crate::limits;
+use crate::refusal::{require, Refusal};
 
 /// A curve's points, one by one, as MWh and price.
 fn points<'a>(mwh: &'a [u64], prices: &'a [i64]) -> impl Iterator<Item = (i128, i128)> + 'a {
@@ -162,6 +166,66 @@ pub fn wheel_finished(posted: i128, schedule: i128, actual: i128, difference: i1
     posted - max(schedule - actual, 0) * difference + max(max(actual - schedule, 0) * difference, 0)
 }
 
+/// One side of a virtual bid, load or supply: "MWh and differential per side"
+/// (02, order 6).
+#[derive(Clone, Copy, Debug, Default, PartialEq, Eq)]
+pub struct Side {
+    /// MWh, bid or posted: 0 to 10,000.
+    pub mwh: u64,
+    /// Cents per MWh: 0 to 1,000,000.
+    pub differential: u64,
+}
+
+impl Side {
+    /// MWh x differential.
+    fn amount(self) -> i128 {
+        i128::from(self.mwh) * i128::from(self.differential)
+    }
+
+    /// What this side has above the other, which has no more MWh.
+    fn net_of(self, other: Side) -> Side {
+        Side {
+            mwh: self.mwh - other.mwh,
+            ..self
+        }
+    }
+}
+
+/// Virtual bid, kind 6, bid (02, order 6; 001, section 26.4.2.6): "while bid,
+/// the requirement is the greater of load MWh x load differential and supply
+/// MWh x supply differential." Refusals 6 and 8.
+pub fn virtual_bid(load: Side, supply: Side) -> Result<i128, Refusal> {
+    check_sides(load, supply)?;
+    Ok(max(load.amount(), supply.amount()))
+}
+
+/// The same, posted (02, order 6): "the net MWh times the differential of the
+/// net side, 0 when they cancel." The MWh are those posted. Refusals 6 and 8.
+///
+/// 001: "only the credit requirement for the net position of the accepted Bids
+/// (in MWhs of Virtual Load or Virtual Supply) will be included".
+pub fn virtual_posted(load: Side, supply: Side) -> Result<i128, Refusal> {
+    check_sides(load, supply)?;
+    Ok(match load.mwh.cmp(&supply.mwh) {
+        Ordering::Greater => load.net_of(supply).amount(),
+        Ordering::Less => supply.net_of(load).amount(),
+        Ordering::Equal => 0,
+    })
+}
+
+/// Refusals 6 and 8 of two sides, in this order.
+fn check_sides(load: Side, supply: Side) -> Result<(), Refusal> {
+    check_side_mwh(load.mwh, supply.mwh)?;
+    let fits = |side: Side| limits::DIFFERENTIAL.contains(&side.differential);
+    require(fits(load) && fits(supply), Refusal::Differential)
+}
+
+/// Refusal 6 of two sides: "Each side's MWh is at most 10,000" (02, order 6).
+pub(crate) fn check_side_mwh(load: u64, supply: u64) -> Result<(), Refusal> {
+    let fits = |mwh: u64| limits::SIDE_MWH.contains(&mwh);
+    require(fits(load) && fits(supply), Refusal::Quantity)
+}
+
 #[cfg(test)]
 mod tests {
     use super::*;
@@ -282,6 +346,113 @@ mod tests {
         let closed = |price| quarter_hour_export_closed(&[640_000; 4], &[price; 4]);
         assert_eq!(closed(1_000_000), 640_000_000_000);
         assert_eq!(closed(-1_000_000), 0);
+    }
+
+    fn side(mwh: u64, differential: u64) -> Side {
+        Side { mwh, differential }
+    }
+
+    #[test]
+    fn a_virtual_bid_takes_the_greater_side() {
+        let nothing = side(0, 0);
+        for (load, supply, cents) in [
+            (nothing, nothing, 0),
+            (side(100, 0), side(0, 6_000), 0),
+            (side(100, 6_000), nothing, 600_000),
+            (nothing, side(100, 6_000), 600_000),
+            (side(100, 6_000), side(90, 6_000), 600_000),
+            (side(90, 6_000), side(100, 6_000), 600_000),
+            // The fewer MWh may be the greater product.
+            (side(100, 40), side(1, 4_001), 4_001),
+            (side(1, 4_001), side(100, 40), 4_001),
+            // Equal products, of equal sides and of others.
+            (side(7, 30), side(7, 30), 210),
+            (side(7, 30), side(30, 7), 210),
+            (
+                side(10_000, 1_000_000),
+                side(10_000, 999_999),
+                10_000_000_000,
+            ),
+            (
+                side(9_999, 1_000_000),
+                side(10_000, 1_000_000),
+                10_000_000_000,
+            ),
+        ] {
+            assert_eq!(virtual_bid(load, supply), Ok(cents), "{load:?}, {supply:?}");
+        }
+    }
+
+    #[test]
+    fn a_posted_virtual_bid_takes_the_net_side() {
+        let nothing = side(0, 0);
+        for (load, supply, cents) in [
+            (nothing, nothing, 0),
+            (side(50, 6_000), nothing, 300_000),
+            (nothing, side(50, 6_000), 300_000),
+            // 20 MWh of load, 20 of supply: each with its own differential.
+            (side(50, 6_000), side(30, 1), 120_000),
+            (side(50, 1), side(30, 6_000), 20),
+            (side(30, 6_000), side(50, 1), 20),
+            (side(30, 1), side(50, 6_000), 120_000),
+            // A net side without a differential needs nothing.
+            (side(50, 0), side(30, 6_000), 0),
+            (side(30, 6_000), side(50, 0), 0),
+            // They cancel, whatever the differentials.
+            (side(50, 6_000), side(50, 1), 0),
+            (side(50, 1), side(50, 6_000), 0),
+            (side(10_000, 1_000_000), side(10_000, 1_000_000), 0),
+            // One MWh either way, and the most.
+            (side(51, 70), side(50, 90), 70),
+            (side(50, 70), side(51, 90), 90),
+            (side(10_000, 1_000_000), side(0, 1_000_000), 10_000_000_000),
+            (side(0, 1_000_000), side(10_000, 1_000_000), 10_000_000_000),
+        ] {
+            let posted = virtual_posted(load, supply);
+            assert_eq!(posted, Ok(cents), "{load:?}, {supply:?}");
+        }
+    }
+
+    #[test]
+    fn two_sides_out_of_range_are_6_and_then_8() {
+        let (most, edge) = (side(10_000, 1_000_000), side(u64::MAX, u64::MAX));
+        for formula in [virtual_bid, virtual_posted] {
+            let refused = |load, supply| formula(load, supply).unwrap_err().number();
+            assert!(formula(most, most).is_ok());
+            for mwh in [10_001, 640_000, u64::MAX] {
+                let long = side(mwh, 0);
+                assert_eq!(refused(long, side(0, 0)), 6);
+                assert_eq!(refused(side(0, 0), long), 6);
+                assert_eq!(refused(long, edge), 6);
+                // The differential of one side is read after the MWh of both.
+                assert_eq!(refused(side(0, u64::MAX), long), 6);
+                assert_eq!(refused(long, side(0, u64::MAX)), 6);
+            }
+            for differential in [1_000_001, u64::MAX] {
+                let dear = side(0, differential);
+                assert_eq!(refused(dear, most), 8);
+                assert_eq!(refused(most, dear), 8);
+                assert_eq!(refused(dear, dear), 8);
+            }
+        }
+    }
+
+    #[test]
+    fn posting_all_or_less_of_a_virtual_bid_never_asks_for_more() {
+        let few = [0, 1, 2, 5];
+        for (bid_load, bid_supply) in [(0, 5), (3, 5), (5, 5), (5, 2)] {
+            for (load, supply) in [(1, 3), (3, 1), (2, 2), (0, 4)] {
+                let of = |l, s| (side(l, load), side(s, supply));
+                let (l, s) = of(bid_load, bid_supply);
+                let bid = virtual_bid(l, s).unwrap();
+                for l in few.iter().filter(|&&mwh| mwh <= bid_load) {
+                    for s in few.iter().filter(|&&mwh| mwh <= bid_supply) {
+                        let (l, s) = of(*l, *s);
+                        assert!(virtual_posted(l, s).unwrap() <= bid);
+                    }
+                }
+            }
+        }
     }
 
     #[test]

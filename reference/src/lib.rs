@@ -1,5 +1,5 @@
 //! One customer's book and its rules, read from document 01 with orders 1
-//! to 5 of document 02.
+//! to 6 of document 02.
 //!
 //! Quantities are whole MWh, prices and differentials whole cents per MWh,
 //! amounts signed whole cents. All are exact: every sum and product is taken

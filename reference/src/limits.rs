@@ -23,7 +23,8 @@ pub const MWH: RangeInclusive<u64> = 0..=640_000;
 /// "Price: -1,000,000 to 1,000,000."
 pub const PRICE: RangeInclusive<i64> = -1_000_000..=1_000_000;
 
-/// "Differential: 0 to 1,000,000", for kinds 1 and 2.
+/// "Differential: 0 to 1,000,000", for kinds 1 and 2, and for either side of
+/// kind 6 (02, order 6).
 pub const DIFFERENTIAL: RangeInclusive<u64> = 0..=1_000_000;
 
 /// "Differential: 0 for kinds 3 and 4", and for kind 5 (02, order 3).
@@ -61,6 +62,12 @@ pub const INTERVAL_MWH: RangeInclusive<u64> = 0..=640_000;
 
 /// Kind 5 at stage 1: "pending (stage 1), requirement 0" (02, order 3).
 pub const PENDING_REQUIREMENT: RangeInclusive<i64> = 0..=0;
+
+/// Kind 6: "path 1 to 11 for zones A to K" (02, order 6).
+pub const ZONE: RangeInclusive<u64> = 1..=11;
+
+/// Kind 6: "each side's MWh is at most 10,000" (02, order 6), bid or posted.
+pub const SIDE_MWH: RangeInclusive<u64> = 0..=10_000;
 
 /// The import test's numbers, "each 0 to 10^9".
 pub const HISTORY: RangeInclusive<u64> = 0..=1_000_000_000;

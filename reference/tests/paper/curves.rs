@@ -221,7 +221,7 @@ fn peel(message: fn(Key, [u64; 4]) -> Message, steps: &[(u64, Mend)]) {
     let (mut book, mut key) = (
         worst_book(),
         Key {
-            kind: 6,
+            kind: 7,
             path: 0,
             hour: 1_000_000,
         },

@@ -1,6 +1,7 @@
 //! The ends of the types, and the largest amounts within the ranges.
 
 use crate::helpers::*;
+use reference::book::Supply;
 use reference::{Book, Key, Message, Record, Refusal};
 
 const UNSIGNED: [u64; 6] = [0, 1, 4, i64::MAX as u64, i64::MAX as u64 + 1, u64::MAX];
@@ -37,6 +38,24 @@ fn messages() -> Vec<Message> {
         messages.extend(SIGNED.map(|amount| bill(key, amount)));
     }
     messages.extend(SIGNED.map(support));
+    messages.extend(messages_with_sides());
+    messages
+}
+
+/// The same of the messages with two sides.
+fn messages_with_sides() -> Vec<Message> {
+    let mut messages = Vec::new();
+    for key in keys().into_iter().filter(|key| key.kind == 0) {
+        for first in UNSIGNED {
+            for second in UNSIGNED {
+                messages.push(open_sides(key, (first, second), (second, first)));
+                messages.push(open_sides(key, (first, 1), (1, second)));
+                messages.push(revise_sides(key, (first, second), (1, 1)));
+                messages.push(revise_sides(key, (1, 1), (first, second)));
+                messages.push(post_sides(key, first, second));
+            }
+        }
+    }
     messages
 }
 
@@ -71,6 +90,24 @@ fn a_sound_book_answers_messages_of_extreme_values() {
 }
 
 #[test]
+fn a_book_with_a_virtual_bid_answers_messages_of_extreme_values() {
+    let open_key = Key {
+        kind: VIRTUAL,
+        path: 1,
+        hour: 1,
+    };
+    for stage in [1, 2, 4] {
+        let book = with(Record {
+            key: open_key,
+            ..staged(VIRTUAL, stage)
+        });
+        for message in messages_with_sides() {
+            try_on(&book, message, &[u64::MAX; 2], &[i64::MIN; 3]);
+        }
+    }
+}
+
+#[test]
 fn an_unsound_book_of_extreme_values_answers_1() {
     for number in [1, u64::MAX] {
         for amount in [i64::MIN, i64::MAX] {
@@ -88,6 +125,11 @@ fn an_unsound_book_of_extreme_values_answers_1() {
                 day_ahead_price: amount,
                 requirement: amount,
                 intervals: [number; 4],
+                supply: Supply {
+                    mwh: number,
+                    differential: number,
+                    schedule: number,
+                },
             };
             let mut book = wide();
             book.records = [record; 256];
@@ -116,6 +158,11 @@ fn the_largest_bids() {
     assert_eq!(answer.requirement, 640_000_000_000);
     let answer = wide().apply(open(key(WHEEL), 0, false), &mwh, &[-1_000_000; 64]);
     assert_eq!(answer.requirement, 10_000_000_000);
+    let side = (10_000, 1_000_000);
+    for (load, supply) in [(side, side), (side, (0, 0)), ((0, 0), side)] {
+        let answer = wide().apply(open_sides(key(VIRTUAL), load, supply), &[], &[]);
+        assert_eq!(answer.requirement, 10_000_000_000);
+    }
 }
 
 /// The finished amount and whether the book is sound with it.

@@ -1,7 +1,8 @@
 //! Short ways to say a message and to expect an answer.
 
 use reference::book::{
-    Bill, Closing, Curves, Finish, Opening, Payment, Posting, Revision, Support, Withdrawal,
+    Bill, Closing, Curves, Finish, Opening, Payment, Posting, Revision, Side, Sides, SidesPosting,
+    Supply, Support, Withdrawal,
 };
 use reference::{Answer, Book, Key, Message, Record, Refusal};
 
@@ -10,6 +11,7 @@ pub const EXPORT: u64 = 2;
 pub const HOUR_AHEAD_EXPORT: u64 = 3;
 pub const WHEEL: u64 = 4;
 pub const QUARTER_HOUR_EXPORT: u64 = 5;
+pub const VIRTUAL: u64 = 6;
 
 pub const MOST_SUPPORT: i64 = 1_000_000_000_000_000;
 
@@ -129,9 +131,41 @@ pub fn close(hour: u64) -> Message {
     Message::Close(Closing { hour })
 }
 
-/// Each of the eleven messages about a key, in range and without a second
-/// price; those of document 01 first.
-pub fn one_of_each(key: Key) -> [Message; 11] {
+/// MWh and differential.
+type Numbers = (u64, u64);
+
+/// The zone and the hour are the key's; its kind is not sent.
+fn sides(key: Key, load: Numbers, supply: Numbers) -> Sides {
+    let side = |(mwh, differential)| Side { mwh, differential };
+    Sides {
+        zone: key.path,
+        hour: key.hour,
+        load: side(load),
+        supply: side(supply),
+    }
+}
+
+pub fn open_sides(key: Key, load: Numbers, supply: Numbers) -> Message {
+    Message::OpenSides(sides(key, load, supply))
+}
+
+pub fn revise_sides(key: Key, load: Numbers, supply: Numbers) -> Message {
+    Message::ReviseSides(sides(key, load, supply))
+}
+
+pub fn post_sides(key: Key, load: u64, supply: u64) -> Message {
+    Message::PostSides(SidesPosting {
+        zone: key.path,
+        hour: key.hour,
+        load,
+        supply,
+    })
+}
+
+/// Each of the fourteen messages about a key, in range and without a second
+/// price; those of document 01 first. The last three are about the zone and
+/// the hour of the key, whatever its kind.
+pub fn one_of_each(key: Key) -> [Message; 14] {
     [
         open(key, 0, false),
         revise(key, 0, false),
@@ -144,6 +178,9 @@ pub fn one_of_each(key: Key) -> [Message; 11] {
         open_curves(key, [1, 0, 0, 0]),
         revise_curves(key, [1, 0, 0, 0]),
         close(key.hour),
+        open_sides(key, (0, 0), (0, 0)),
+        revise_sides(key, (0, 0), (0, 0)),
+        post_sides(key, 0, 0),
     ]
 }
 
@@ -237,14 +274,19 @@ pub fn owe(book: &mut Book, key: Key, amount: i64) {
 }
 
 /// A record at each stage of its kind, put together without messages. Kind 5
-/// has no bid MWh, and the sums of four intervals.
+/// has no bid MWh, and the sums of four intervals; kind 6 has a supply side.
 pub fn staged(kind: u64, stage: u64) -> Record {
     let four = kind == QUARTER_HOUR_EXPORT;
+    let supply = if kind == VIRTUAL { 20 } else { 0 };
     Record {
         key: key(kind),
         stage,
         bid_mwh: if four { 0 } else { 10 },
         intervals: if four { [10, 20, 0, 40] } else { [0; 4] },
+        supply: Supply {
+            mwh: supply,
+            ..Supply::NONE
+        },
         ..Record::FREE
     }
 }

@@ -109,11 +109,25 @@ fn after_each_message_the_kept_totals_are_the_full_walk() {
 }
 
 #[test]
+fn after_each_message_of_a_virtual_bid_the_kept_totals_are_the_full_walk() {
+    let mut book = wide();
+    let (first, second) = (key_no(VIRTUAL, 5), key_no(VIRTUAL, 6));
+    leaves(&mut book, open(key_no(EXPORT, 2), 5, false), 150, 0);
+    leaves(&mut book, open_sides(first, (10, 40), (30, 20)), 750, 0);
+    leaves(&mut book, open_sides(second, (7, 1), (0, 9)), 757, 0);
+    leaves(&mut book, revise_sides(first, (20, 40), (30, 20)), 957, 0);
+    leaves(&mut book, post_sides(first, 5, 7), 197, 0);
+    leaves(&mut book, bill(first, -1_000), -843, -1_000);
+    leaves(&mut book, withdraw(second), -850, -1_000);
+    leaves(&mut book, pay(first), 150, 0);
+}
+
+#[test]
 fn a_refusal_keeps_the_totals_and_answers_them() {
     let mut book = mixed();
     for message in one_of_each(key(WHEEL)) {
         let expected = match message {
-            Message::Open(_) | Message::Support(_) => continue,
+            Message::Open(_) | Message::Support(_) | Message::OpenSides(_) => continue,
             Message::OpenCurves(_) | Message::ReviseCurves(_) | Message::Close(_) => {
                 Refusal::Points
             }

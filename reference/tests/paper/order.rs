@@ -40,7 +40,7 @@ impl Draft {
     fn worst() -> Draft {
         Draft {
             key: Key {
-                kind: 6,
+                kind: 7,
                 path: 0,
                 hour: 1_000_000,
             },

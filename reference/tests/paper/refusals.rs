@@ -38,8 +38,8 @@ fn refusal_1_book_not_sound() {
 }
 
 #[test]
-fn refusal_2_kind_not_1_to_5() {
-    for kind in [0, 6, 7, u64::MAX] {
+fn refusal_2_kind_not_1_to_6() {
+    for kind in [0, 7, 8, u64::MAX] {
         for message in keyed(key(kind)) {
             assert_eq!(number(message, MWH, PRICES), 2);
         }
@@ -47,6 +47,24 @@ fn refusal_2_kind_not_1_to_5() {
     for kind in 1..=4 {
         for message in keyed(key(kind)) {
             assert_eq!(number(message, MWH, PRICES), when_not_open(message));
+        }
+    }
+    for kind in [QUARTER_HOUR_EXPORT, VIRTUAL] {
+        for message in keyed(key(kind)) {
+            let expected = match message {
+                Message::Open(_) | Message::Revise(_) => 5,
+                _ => 11,
+            };
+            assert_eq!(number(message, MWH, PRICES), expected);
+        }
+    }
+}
+
+#[test]
+fn refusal_2_of_four_curves_is_for_kinds_that_are_none() {
+    for kind in [0, 7, 8, u64::MAX] {
+        for message in [open_curves, revise_curves] {
+            assert_eq!(number(message(key(kind), [1, 0, 0, 0]), MWH, PRICES), 2);
         }
     }
 }

@@ -1,6 +1,7 @@
 //! "A book is sound when": each clause broken in turn.
 
 use crate::helpers::*;
+use reference::book::Supply;
 use reference::{Book, Record, Refusal};
 
 /// Kind 5 at stage 1, which has no requirement (02, order 3).
@@ -10,26 +11,43 @@ const PENDING: (u64, u64) = (QUARTER_HOUR_EXPORT, 1);
 /// hold one.
 fn full(kind: u64, stage: u64) -> Record {
     let from_2 = stage >= 2 && kind != HOUR_AHEAD_EXPORT && kind != QUARTER_HOUR_EXPORT;
+    let two_sides = Supply {
+        mwh: 20,
+        differential: 70,
+        schedule: if from_2 { 5 } else { 0 },
+    };
     Record {
-        differential: if kind <= EXPORT { 60 } else { 0 },
+        differential: if has_differential(kind) { 60 } else { 0 },
         exempt: kind == IMPORT,
         schedule: if from_2 { 4 } else { 0 },
         day_ahead_price: if from_2 && kind == IMPORT { -3 } else { 0 },
         requirement: if (kind, stage) == PENDING { 0 } else { 9 },
+        supply: if kind == VIRTUAL {
+            two_sides
+        } else {
+            Supply::NONE
+        },
         ..staged(kind, stage)
     }
 }
 
-fn kinds_and_stages() -> Vec<(u64, u64)> {
-    let mut all = Vec::new();
-    for kind in 1..=5 {
-        for stage in 1..=4 {
-            if (kind, stage) != (HOUR_AHEAD_EXPORT, 2) {
-                all.push((kind, stage));
-            }
-        }
+/// Kinds 1 and 2, and the sides of kind 6 (02, order 6).
+fn has_differential(kind: u64) -> bool {
+    [IMPORT, EXPORT, VIRTUAL].contains(&kind)
+}
+
+/// The stages that a kind has.
+fn stages(kind: u64) -> &'static [u64] {
+    match kind {
+        HOUR_AHEAD_EXPORT => &[1, 3, 4],
+        VIRTUAL => &[1, 2, 4],
+        _ => &[1, 2, 3, 4],
     }
-    all
+}
+
+fn kinds_and_stages() -> Vec<(u64, u64)> {
+    let of = |kind| stages(kind).iter().map(move |&stage| (kind, stage));
+    (1..=6).flat_map(of).collect()
 }
 
 /// An unsound book answers refusal 1 to every message and stays as it is.
@@ -40,6 +58,7 @@ fn assert_unsound(book: Book) {
         key(IMPORT),
         key(HOUR_AHEAD_EXPORT),
         key(QUARTER_HOUR_EXPORT),
+        key(VIRTUAL),
         key(0),
     ];
     for message in keys.into_iter().flat_map(one_of_each) {
@@ -117,7 +136,7 @@ fn keys_are_distinct() {
 
 #[test]
 fn free_places_are_zero() {
-    let changes: [fn(&mut Record); 14] = [
+    let changes: [fn(&mut Record); 17] = [
         |record| record.key.path = 1,
         |record| record.key.hour = 1,
         |record| record.stage = 1,
@@ -132,6 +151,9 @@ fn free_places_are_zero() {
         |record| record.intervals[1] = 1,
         |record| record.intervals[2] = 1,
         |record| record.intervals[3] = 1,
+        |record| record.supply.mwh = 1,
+        |record| record.supply.differential = 1,
+        |record| record.supply.schedule = 1,
     ];
     for change in changes {
         for place in [0, 128, 255] {
@@ -153,8 +175,8 @@ fn free_places_may_lie_between_records() {
 }
 
 #[test]
-fn kinds_are_1_to_5() {
-    for number in [0, 6, u64::MAX] {
+fn kinds_are_1_to_6() {
+    for number in [0, 7, u64::MAX] {
         for (kind, stage) in kinds_and_stages() {
             breaks(kind, stage, |record| record.key.kind = number);
         }
@@ -162,12 +184,13 @@ fn kinds_are_1_to_5() {
 }
 
 #[test]
-fn paths_are_1_to_999() {
+fn paths_are_1_to_999_and_1_to_11_for_kind_6() {
     for (kind, stage) in kinds_and_stages() {
-        for path in [0, 1000, u64::MAX] {
+        let most = if kind == VIRTUAL { 11 } else { 999 };
+        for path in [0, most + 1, 1000, u64::MAX] {
             breaks(kind, stage, |record| record.key.path = path);
         }
-        for path in [1, 999] {
+        for path in [1, 11, most] {
             keeps(kind, stage, |record| record.key.path = path);
         }
     }
@@ -202,10 +225,21 @@ fn stages_are_never_2_for_kind_3() {
 }
 
 #[test]
-fn bid_mwh_is_at_most_10_000_for_kinds_1_and_4_0_for_5_and_640_000_otherwise() {
+fn stages_are_never_3_for_kind_6() {
+    for stage in [1, 2, 4] {
+        breaks(VIRTUAL, stage, |record| record.stage = 3);
+    }
+    // "Bill goes from 2 to 4", and what was posted stays.
+    for stage in [2, 4] {
+        keeps(VIRTUAL, 2, |record| record.stage = stage);
+    }
+}
+
+#[test]
+fn bid_mwh_is_at_most_10_000_for_kinds_1_4_and_6_0_for_5_and_640_000_otherwise() {
     for (kind, stage) in kinds_and_stages() {
         let most = match kind {
-            IMPORT | WHEEL => 10_000,
+            IMPORT | WHEEL | VIRTUAL => 10_000,
             QUARTER_HOUR_EXPORT => 0,
             _ => 640_000,
         };
@@ -219,7 +253,7 @@ fn bid_mwh_is_at_most_10_000_for_kinds_1_and_4_0_for_5_and_640_000_otherwise() {
 #[test]
 fn differentials_are_in_range_and_0_for_kinds_3_to_5() {
     for (kind, stage) in kinds_and_stages() {
-        let most = if kind <= EXPORT { 1_000_000 } else { 0 };
+        let most = if has_differential(kind) { 1_000_000 } else { 0 };
         for differential in [0, most] {
             keeps(kind, stage, |record| record.differential = differential);
         }
@@ -231,11 +265,11 @@ fn differentials_are_in_range_and_0_for_kinds_3_to_5() {
 
 #[test]
 fn schedule_is_at_most_bid_mwh() {
-    for kind in [IMPORT, EXPORT, WHEEL] {
-        for stage in 2..=4 {
+    for kind in [IMPORT, EXPORT, WHEEL, VIRTUAL] {
+        for &stage in &stages(kind)[1..] {
             keeps(kind, stage, |record| record.schedule = 10);
             keeps(kind, stage, |record| record.schedule = 0);
-            for schedule in [11, u64::MAX] {
+            for schedule in [11, 20, u64::MAX] {
                 breaks(kind, stage, |record| record.schedule = schedule);
             }
         }
@@ -244,7 +278,7 @@ fn schedule_is_at_most_bid_mwh() {
 
 #[test]
 fn schedule_is_0_at_stage_1_and_for_kinds_3_and_5() {
-    for kind in 1..=5 {
+    for kind in 1..=6 {
         breaks(kind, 1, |record| record.schedule = 1);
     }
     for stage in 1..=4 {
@@ -303,7 +337,7 @@ fn the_requirement_is_bounded_at_each_stage() {
 }
 
 #[test]
-fn interval_sums_are_at_most_640_000_and_0_for_kinds_1_to_4() {
+fn interval_sums_are_at_most_640_000_and_0_for_every_kind_but_5() {
     for (kind, stage) in kinds_and_stages() {
         for interval in 0..4 {
             let set = |mwh| move |record: &mut Record| record.intervals[interval] = mwh;
@@ -339,10 +373,88 @@ fn a_kind_5_record_is_no_record_of_another_kind() {
 }
 
 #[test]
+fn supply_mwh_are_at_most_10_000_and_the_differential_at_most_1_000_000() {
+    for stage in [1, 2, 4] {
+        for mwh in [5, 10_000] {
+            keeps(VIRTUAL, stage, |record| record.supply.mwh = mwh);
+        }
+        for mwh in [10_001, 640_000, u64::MAX] {
+            breaks(VIRTUAL, stage, |record| record.supply.mwh = mwh);
+        }
+        for differential in [0, 1_000_000] {
+            let set = move |record: &mut Record| record.supply.differential = differential;
+            keeps(VIRTUAL, stage, set);
+        }
+        for differential in [1_000_001, u64::MAX] {
+            let set = move |record: &mut Record| record.supply.differential = differential;
+            breaks(VIRTUAL, stage, set);
+        }
+    }
+}
+
+#[test]
+fn posted_supply_is_at_most_bid_supply_and_0_at_stage_1() {
+    for stage in [2, 4] {
+        for schedule in [0, 11, 20] {
+            keeps(VIRTUAL, stage, |record| record.supply.schedule = schedule);
+        }
+        for schedule in [21, u64::MAX] {
+            breaks(VIRTUAL, stage, |record| record.supply.schedule = schedule);
+        }
+        breaks(VIRTUAL, stage, |record| record.supply.mwh = 4);
+    }
+    for schedule in [1, 20, 21] {
+        breaks(VIRTUAL, 1, |record| record.supply.schedule = schedule);
+    }
+}
+
+#[test]
+fn either_side_or_both_may_be_0() {
+    for stage in [1, 2, 4] {
+        keeps(VIRTUAL, stage, |record| record.supply = Supply::NONE);
+        keeps(VIRTUAL, stage, |record| {
+            record.bid_mwh = 0;
+            record.differential = 0;
+            record.schedule = 0;
+        });
+        keeps(VIRTUAL, stage, |record| {
+            *record = Record {
+                key: record.key,
+                stage,
+                ..Record::FREE
+            }
+        });
+    }
+}
+
+#[test]
+fn the_supply_side_is_0_for_every_kind_but_6() {
+    let changes: [fn(&mut Record); 3] = [
+        |record| record.supply.mwh = 1,
+        |record| record.supply.differential = 1,
+        |record| record.supply.schedule = 1,
+    ];
+    for (kind, stage) in kinds_and_stages() {
+        if kind != VIRTUAL {
+            for change in changes {
+                breaks(kind, stage, change);
+            }
+        }
+    }
+    for stage in [1, 2, 4] {
+        for other in 1..=5 {
+            breaks(VIRTUAL, stage, |record| record.key.kind = other);
+        }
+    }
+}
+
+#[test]
 fn a_requirement_need_not_be_the_one_of_the_formula() {
     // A sound book is bounded, no more is asked: an exempt import at stage 1
-    // may hold an amount.
-    keeps(IMPORT, 1, |record| record.requirement = 640_000_000_000);
+    // may hold an amount, and a virtual bid more than its sides can need.
+    for kind in [IMPORT, VIRTUAL] {
+        keeps(kind, 1, |record| record.requirement = 640_000_000_000);
+    }
 }
 
 #[test]

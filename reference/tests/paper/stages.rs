@@ -1,6 +1,7 @@
 //! "Messages and stages" and what a record keeps.
 
 use crate::helpers::*;
+use reference::book::Supply;
 use reference::{Book, Record, Refusal};
 
 const KINDS: [u64; 4] = [IMPORT, EXPORT, HOUR_AHEAD_EXPORT, WHEEL];
@@ -47,6 +48,7 @@ fn an_import_goes_through_its_stages() {
         day_ahead_price: 4000,
         requirement: 300_000,
         intervals: [0; 4],
+        supply: Supply::NONE,
     };
     assert_eq!(book.records[0], expected);
     let answer = book.apply(finish(key, 10, 6000, 0), &[], &[]);
@@ -79,6 +81,7 @@ fn an_export_does_not_keep_its_day_ahead_price() {
         day_ahead_price: 0,
         requirement: 500_000,
         intervals: [0; 4],
+        supply: Supply::NONE,
     };
     assert_eq!(book.records[0], expected);
 }

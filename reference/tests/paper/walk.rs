@@ -226,3 +226,95 @@ fn every_step_of_order_3_keeps_the_book_sound() {
     }
     assert_eq!(met[16], 0);
 }
+
+impl Numbers {
+    /// A message of order 6: few keys, so that each is met often.
+    fn of_order_6(&mut self) -> Message {
+        let key = Key {
+            kind: VIRTUAL,
+            path: 1 + self.below(12),
+            hour: self.below(3),
+        };
+        let mut side = || (self.below(40), self.below(50));
+        let (load, supply) = (side(), side());
+        match self.below(16) {
+            0..=4 => open_sides(key, load, supply),
+            5..=6 => revise_sides(key, load, supply),
+            7 => withdraw(key),
+            8..=10 => post_sides(key, load.0 / 2, supply.0 / 2),
+            11 => finish(key, load.0, self.price(), 0),
+            12 => post(key, load.0, self.price(), 0),
+            13 => bill(key, self.below(4_000) as i64 - 1_800),
+            14 => pay(key),
+            _ => support(self.below(30_000) as i64),
+        }
+    }
+}
+
+/// What the record of an accepted message is: of open and revise its sides, of
+/// post and bill those that were bid.
+fn check_sides(before: &Book, message: Message, after: &Book) {
+    let of = |book: &Book, zone, hour| {
+        let key = Key {
+            kind: VIRTUAL,
+            path: zone,
+            hour,
+        };
+        record(book, key)
+    };
+    match message {
+        Message::OpenSides(sides) | Message::ReviseSides(sides) => {
+            let new = of(after, sides.zone, sides.hour);
+            assert_eq!(new.bid_mwh, sides.load.mwh);
+            assert_eq!(new.supply.mwh, sides.supply.mwh);
+            assert_eq!((new.stage, new.schedule, new.supply.schedule), (1, 0, 0));
+        }
+        Message::PostSides(posting) => {
+            let (zone, hour) = (posting.zone, posting.hour);
+            let old = of(before, zone, hour);
+            let mut expected = Record {
+                stage: 2,
+                schedule: posting.load,
+                requirement: of(after, zone, hour).requirement,
+                ..old
+            };
+            expected.supply.schedule = posting.supply;
+            assert_eq!(of(after, zone, hour), expected);
+            assert!(expected.requirement <= old.requirement);
+        }
+        Message::Bill(bill) => {
+            let expected = Record {
+                stage: 4,
+                requirement: bill.amount,
+                ..record(before, bill.key)
+            };
+            assert_eq!(record(after, bill.key), expected);
+        }
+        _ => {}
+    }
+}
+
+#[test]
+fn every_step_of_order_6_keeps_the_book_sound() {
+    let mut numbers = Numbers(6);
+    let mut met = [0_u32; 19];
+    for _ in 0..10 {
+        let mut book = fresh(20_000);
+        for _ in 0..3000 {
+            let message = numbers.of_order_6();
+            let before = book.clone();
+            let answer = book.apply(message, &[], &[]);
+            check_step(&before, message, &book, answer.number());
+            assert_eq!(answer.held, sum(&book, |_| true));
+            assert_eq!(answer.net_owed, sum(&book, |record| record.stage == 4));
+            assert_eq!(Book::rebuilt(book.support, book.records), book);
+            if answer.number() == 0 {
+                check_sides(&before, message, &book);
+            }
+            met[answer.number() as usize] += 1;
+        }
+    }
+    for number in [0, 3, 10, 11, 12, 13, 14, 16] {
+        assert!(met[number] > 0, "refusal {number} was never met: {met:?}");
+    }
+}
