@@ -1,5 +1,6 @@
 // The differential chart of document 01, in the two editions of 02, order 5: the group of an hour, and in the older edition the differential that is published for it
 // at a bus.
+#![tactic(auto)]
 
 mod differentials;
 mod groups;

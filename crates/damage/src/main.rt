@@ -1,5 +1,6 @@
 // Tapes that are cut, flipped, damaged or random, through the reader, and messages with faults through the writer: how often the reader gave each answer, and a digest of all that
 // both gave back and left in what was lent to them (docs/TAPE.md).
+#![tactic(auto)]
 mod draws;
 mod tally;
 mod writing;

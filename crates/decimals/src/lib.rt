@@ -1,5 +1,6 @@
 // A number as it stands in a line: its decimal digits as bytes, without a leading zero, '-' before a number below 0. Each number has one such form.
 // What is read is some number, whatever the bytes: whoever reads compares the bytes with the number's form.
+#![tactic(auto)]
 ghost use Rattle.std.specs.Prelude.{◌≡◌, ◌+◌, ◌≤◌, ◌<◌, length, drop};
 ghost use Rattle.decimals.specs.Decimals.{longer, value_from, whole, signed, capped, below_zero, decimal, signed_decimal};
 

@@ -3,6 +3,7 @@
 // order, with the points of an open or a revise last; `curves` and `recurves` open and revise four curves, `rows` opens four whose points are alike, `hour` closes
 // an hour, and `span` does with many paths; other lines begin a fresh book, look at a place or at the sums (support, held, net owed), `rebuild` the book,
 // or make a book that no message makes (`write` a place, `endow` with a support, `make` other totals).
+#![tactic(auto)]
 mod act;
 mod say;
 mod scripts;

@@ -1,4 +1,5 @@
 // The first message on a tape (02, order 8), by value: each field by its place.
+#![tactic(auto)]
 ghost use Rattle.std.specs.Prelude.{◌≡◌, ◌≤◌};
 ghost use Rattle.bits.specs.Bits.{field};
 ghost use Rattle.twos.specs.Twos.{signed};

@@ -1,5 +1,6 @@
 // The forms of lines, and the walk of a line by its form. A line is cut at its spaces into tokens; a form is a row of items, each of which stands for
 // a token, a list of numbers ('*' whole, '+' signed) or the end of the line ('.').
+#![tactic(auto)]
 ghost use Rattle.std.specs.Prelude.{◌≡◌, ◌+◌, ◌*◌, ◌≤◌, ◌<◌, length, get_or, take};
 ghost use Rattle.decimals.specs.Decimals.{whole, signed};
 ghost use Rattle.grammar.specs.Forms.{Ends, rows, form, tokens_from, token_at, numeric, reached, missing, one, list, step, walk, number_at, signed_at, entries_at, wholes_at, signeds_at, laid};

@@ -1,4 +1,5 @@
 // The import test of document 01: whether what a customer scheduled before exempts its imports.
+#![tactic(auto)]
 
 ghost use Rattle.std.specs.Prelude.{◌≡◌, ◌≤◌};
 ghost use Rattle.history.specs.Test.{faulty, below, contradict, enough, judged, import_test, number_of, exempt_of};

@@ -1,5 +1,6 @@
 // Prints the answers of the chart and of the import test at document 01's edges and in both editions of 02, order 5, one a line: a label, the refusal's number
 // or 0, then the values, which are group and cents for the chart, in the newer edition the group alone, and 1 or 0 for exempt or not.
+#![tactic(auto)]
 
 use chart::{Answer, Edition, Table};
 use history::{History, Window};

@@ -3,6 +3,7 @@
 // stand how often a screen asks for the totals before the messages. And first of all three: a price, and how many closes at that price and how many opens are sent
 // to a full book of pending bids, each to the book as it was.
 // `bench/speed` times it beside the reference, whose `pace` sends the same messages and prints the same line.
+#![tactic(auto)]
 mod desk;
 mod hour;
 

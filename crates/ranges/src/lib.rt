@@ -1,4 +1,5 @@
 // What turns a message away by itself, on a tape (02, order 8): document 01's refusals 2 to 9, and 2 of what has no tape form.
+#![tactic(auto)]
 ghost use Rattle.std.specs.Prelude.{◌≡◌, ◌++◌};
 ghost use Rattle.refusals.specs.Refusals.{first};
 ghost use Rattle.bids.specs.Rows.{bid_rows, point_rows};

@@ -1,4 +1,5 @@
 // The reader of the desk tape (02, order 8): any bytes.
+#![tactic(auto)]
 ghost use Rattle.std.specs.Prelude.{◌≡◌, cond, ◌++◌, ◌*◌, ◌-◌, ◌≤◌, eqb, length, drop};
 ghost use Rattle.bits.specs.Bits.{bits};
 ghost use Rattle.forms.specs.Places.{mwh_of, prices_of, points_on, mwh_on, prices_on, bytes_on};

@@ -1,4 +1,5 @@
 // The table of refusals: the first row that applies is given. What an entry then answers.
+#![tactic(auto)]
 ghost use Rattle.std.specs.Prelude.{◌≡◌, cond};
 ghost use Rattle.refusals.specs.Refusals.{or_else};
 ghost use Rattle.refusals.specs.Answers.{bid_refusal_of, bid_of, reply};

@@ -2,6 +2,7 @@
 // Without a word it takes a day's messages, writes each to a tape, reads it back from there, and sends it to two books: to one as it was said, to the other as it was read.
 //
 // A line is a message's word and its numbers, in document 01's order, with the points of an open or a revise last; other lines are passed over.
+#![tactic(auto)]
 mod day;
 mod say;
 mod script;

@@ -1,4 +1,5 @@
 // How long an open of 64 points takes on a tape, written and read: a million turns, each with another MWh. Prints a digest of what was read.
+#![tactic(auto)]
 use keys::Key;
 use messages::types::{Message, Opening};
 use tapes::{read, write};

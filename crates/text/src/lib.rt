@@ -1,4 +1,5 @@
 // A line of text as a message, a question, or 'not understood' with the place and what was expected there.
+#![tactic(auto)]
 pub mod types;
 mod values;
 

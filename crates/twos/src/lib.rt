@@ -1,4 +1,5 @@
 // Two's complement (02, order 8), over the width.
+#![tactic(auto)]
 ghost use Rattle.std.specs.Prelude.{◌≡◌, cond, ltb, pos};
 ghost use Rattle.twos.specs.Twos.{twos, signed};
 

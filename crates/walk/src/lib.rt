@@ -1,4 +1,5 @@
 // What one walk over a book's places finds, place by place.
+#![tactic(auto)]
 mod codes;
 mod steps;
 mod summing;

@@ -1,5 +1,6 @@
 // The words of a line, and what may stand where a word or a number is expected. An item is one letter: '#' a whole number, '~' a signed one, '!' a mark
 // (0 or 1), 'A' to 'T' the word that a line begins with, 'a' to 'y' a word within it.
+#![tactic(auto)]
 ghost use Rattle.std.specs.Prelude.{◌≡◌, ◌+◌, ◌*◌, ◌≤◌, ◌<◌, length, take, drop, get_or};
 ghost use Rattle.decimals.specs.Decimals.{same};
 ghost use Rattle.words.specs.Words.{letters, place, spelled, trimmed, fits};

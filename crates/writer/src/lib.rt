@@ -1,4 +1,5 @@
 // The writer of the desk tape (02, order 8).
+#![tactic(auto)]
 ghost use Rattle.std.specs.Prelude.{◌≡◌, [], ◌∷◌, ◌+◌, ◌*◌, ◌≤◌, length};
 ghost use Rattle.bits.specs.Bits.{bit, bits};
 ghost use Rattle.bits.specs.Layout.{field_of, laid_out};
