@@ -4,7 +4,7 @@ use records::types::Record;
 use refusals::Answer;
 
 // What the places passed so far bring to a batch, from the last one on.
-#[derive(Drop)]
+#[derive(Clone, Copy)]
 pub struct Batch {
     // How many bids are pending at the hour.
     pub count: u64,
@@ -15,7 +15,7 @@ pub struct Batch {
 }
 
 // The places after a close, what is kept beside them, and the answer.
-#[derive(Drop)]
+#[derive(Clone, Copy)]
 pub struct Closed {
     pub records: [Record; 256],
     pub account: Account,

@@ -5,7 +5,7 @@ ghost use Rattle.amounts.specs.Limits.{is_point_mwh, is_price};
 ghost use Rattle.bids.specs.Points.{share};
 
 // One point of a bid curve: whole MWh, and cents per MWh.
-#[derive(Drop)]
+#[derive(Clone, Copy)]
 pub struct Point {
     pub mwh: u64,
     pub price: i64,

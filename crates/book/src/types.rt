@@ -3,7 +3,7 @@ use credit::types::Account;
 use records::types::Record;
 use refusals::Answer;
 
-#[derive(Drop)]
+#[derive(Clone, Copy)]
 pub struct Book {
     // First, since the paths of proofs follow a field's position.
     pub records: [Record; 256],
@@ -15,7 +15,7 @@ impl Book {
 }
 
 // The next book, and the answer.
-#[derive(Drop)]
+#[derive(Clone, Copy)]
 pub struct Outcome {
     pub book: Book,
     pub answer: Answer,

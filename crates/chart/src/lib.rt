@@ -12,27 +12,27 @@ ghost use Rattle.chart.specs.Groups.{eighteen, thirty_three, group_in, time_in_r
 ghost use Rattle.chart.specs.Lookup.{bus_in_range, in_edition, answer_in, lookup_of, number_of, group_of, cents_of};
 
 // Virtual supply for imports, virtual load for exports.
-#[derive(Drop)]
+#[derive(Clone, Copy)]
 pub enum Table {
     Import,
     Export,
 }
 
 // An edition of the chart, named by its number.
-#[derive(Drop)]
+#[derive(Clone, Copy)]
 pub struct Edition {
     pub number: u64,
 }
 
 // An hour of the chart: the month, the type of day, and when on the clock it begins.
-#[derive(Drop)]
+#[derive(Clone, Copy)]
 pub struct Time {
     pub month: u64,
     pub day: u64,
     pub hour: u64,
 }
 
-#[derive(Drop)]
+#[derive(Clone, Copy)]
 pub enum Answer {
     At { group: u64, cents: u64 },
     // The newer edition has no differentials.

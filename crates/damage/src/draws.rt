@@ -47,7 +47,7 @@ fn support(seed: u64) -> i64 {
 }
 
 // All that a message could be made of, but for its points.
-#[derive(Drop)]
+#[derive(Clone, Copy)]
 pub(crate) struct Drawn {
     pub(crate) key: Key,
     pub(crate) differential: u64,

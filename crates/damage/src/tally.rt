@@ -4,7 +4,7 @@ use keys::Key;
 use messages::types::Message;
 use tapes::{first_message, read};
 
-#[derive(Drop)]
+#[derive(Clone, Copy)]
 pub(crate) struct Tally {
     pub(crate) digest: u64,
     pub(crate) counts: [u64; 32],

@@ -5,7 +5,7 @@ ghost use Rattle.std.specs.Prelude.{◌≡◌, ◌+◌, ◌≤◌, ◌<◌, leng
 ghost use Rattle.decimals.specs.Decimals.{longer, value_from, whole, signed, capped, below_zero, decimal, signed_decimal};
 
 // The bytes of a token stand at the end of the array, from a place on.
-#[derive(Drop)]
+#[derive(Clone, Copy)]
 pub struct Token {
     pub bytes: [u8; 24],
     pub from: usize,

@@ -45,7 +45,7 @@ fn tampering(turn: u64) -> u64
 // ---- the books
 
 // What may change of a book: what it keeps beside its records, and two of its places. A function that takes a book copies all of it, one that takes this does not.
-#[derive(Drop)]
+#[derive(Clone, Copy)]
 struct Part {
     account: Account,
     first: Record,
@@ -113,7 +113,7 @@ impl Part {
 
 // The number of the answer, whether the book was sound, and whether a screen was told that it is suspended; of a book that is rebuilt, whether the one before it was
 // sound. What each of three books keeps: the run's, the one before, and the one set aside.
-#[derive(Drop)]
+#[derive(Clone, Copy)]
 struct Seen {
     number: u64,
     sound: bool,

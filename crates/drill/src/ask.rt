@@ -12,7 +12,7 @@ use book::{
 };
 use refusals::pick;
 
-#[derive(Drop)]
+#[derive(Clone, Copy)]
 pub(crate) struct Ask {
     pub(crate) message: u64,
     pub(crate) key: Key,
@@ -68,7 +68,7 @@ pub(crate) fn bids(message: u64) -> bool {
 
 // How the book stands when a message is drawn: the season of the run, its open records, and what it last answered. `again`: the
 // turn's own message is still to come, after a support that was set for it.
-#[derive(Drop)]
+#[derive(Clone, Copy)]
 pub(crate) struct Standing {
     pub(crate) season: u64,
     pub(crate) open: u64,

@@ -27,7 +27,7 @@ pub(crate) fn in_another_order(seed: u64) -> bool {
 }
 
 // Paths, of which the first `count` are listed.
-#[derive(Drop)]
+#[derive(Clone, Copy)]
 pub(crate) struct Listing {
     pub(crate) paths: [u64; 16],
     pub(crate) count: u64,

@@ -8,7 +8,7 @@ use crate::{generator, values};
 use refusals::pick;
 
 // How many points each interval is said to have, and how many MWh and how many prices there are.
-#[derive(Drop)]
+#[derive(Clone, Copy)]
 pub(crate) struct Lengths {
     pub(crate) counts: book::Counts,
     pub(crate) numbers: u64,

@@ -8,7 +8,7 @@ use book::{Answer, Kind, Record};
 use refusals::pick;
 
 // What is known of a turn beside its message: the record drawn, and whether the message is to name it; how the book stood before.
-#[derive(Drop)]
+#[derive(Clone, Copy)]
 pub(crate) struct Facts {
     pub(crate) seed: u64,
     pub(crate) record: Record,

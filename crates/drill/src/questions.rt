@@ -9,7 +9,7 @@ use history::{History, Window};
 use refusals::pick;
 
 // A number over three months, and over six.
-#[derive(Drop)]
+#[derive(Clone, Copy)]
 struct Pair {
     three: u64,
     six: u64,
@@ -56,7 +56,7 @@ fn table(w: u64) -> Table {
 }
 
 // A lookup that is asked: whether it is of the newer edition and of the import table, whether bus and time are in range, and what is answered.
-#[derive(Drop)]
+#[derive(Clone, Copy)]
 struct Look {
     newer: bool,
     import: bool,

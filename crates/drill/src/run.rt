@@ -8,7 +8,7 @@ use book::{Account, Answer, Book, Record};
 use refusals::pick;
 
 // How many turns, which of them have a line, and the first one's seed.
-#[derive(Drop)]
+#[derive(Clone, Copy)]
 pub(crate) struct Plan {
     pub(crate) turns: u64,
     pub(crate) from: u64,
@@ -25,7 +25,7 @@ fn print(tally: Tally, plan: Plan, ask: Ask, answer: Answer) {
 }
 
 // A turn's message, answered: whether it is a support set for the turn's own message; the record drawn, and what the book kept before; whether a batch adds nothing.
-#[derive(Drop)]
+#[derive(Clone, Copy)]
 struct Answered {
     ask: Ask,
     answer: Answer,

@@ -7,7 +7,7 @@ use crate::{ask, generator, rows, values};
 use book::{Account, Answer, Kind};
 use refusals::pick;
 
-#[derive(Drop)]
+#[derive(Clone, Copy)]
 pub(crate) struct Tally {
     pub(crate) seed: u64,
     pub(crate) digest: u64,

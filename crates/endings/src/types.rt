@@ -4,7 +4,7 @@ use records::types::Record;
 use refusals::Answer;
 
 // All that a message sees of a book.
-#[derive(Drop)]
+#[derive(Clone, Copy)]
 pub struct View {
     pub sound: bool,
     pub account: Account,
@@ -17,7 +17,7 @@ pub struct View {
 }
 
 // All that is left to write: a record at a place (at 256, none), and what is kept beside the places; and the answer. Or the batch of an hour, which is seen and written in the places.
-#[derive(Drop)]
+#[derive(Clone, Copy)]
 pub struct Ending {
     pub answer: Answer,
     pub account: Account,

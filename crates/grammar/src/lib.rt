@@ -6,7 +6,7 @@ ghost use Rattle.decimals.specs.Decimals.{whole, signed};
 ghost use Rattle.grammar.specs.Forms.{Ends, rows, form, tokens_from, token_at, numeric, reached, missing, one, list, step, walk, number_at, signed_at, entries_at, wholes_at, signeds_at, laid};
 
 // Where a walk has come to; or where it stopped, and what was expected there.
-#[derive(Drop)]
+#[derive(Clone, Copy)]
 pub struct Found {
     pub ok: bool,
     pub place: usize,

@@ -5,20 +5,20 @@ ghost use Rattle.std.specs.Prelude.{◌≡◌, ◌≤◌};
 ghost use Rattle.history.specs.Test.{faulty, below, contradict, enough, judged, import_test, number_of, exempt_of};
 
 // The scheduled Day-Ahead import bids of some months, their MWh, and the MWh of them that settled at a loss.
-#[derive(Drop)]
+#[derive(Clone, Copy)]
 pub struct Window {
     pub bids: u64,
     pub mwh: u64,
     pub loss: u64,
 }
 
-#[derive(Drop)]
+#[derive(Clone, Copy)]
 pub struct History {
     pub three: Window,
     pub six: Window,
 }
 
-#[derive(Drop)]
+#[derive(Clone, Copy)]
 pub enum Answer {
     Exempt,
     NotExempt,

@@ -5,7 +5,7 @@ ghost use Rattle.intervals.specs.Intervals.{no_intervals, curves_refusal_of, int
 use amounts::Quantity;
 
 // How many points each interval has; the points stand one interval after another in two lent lists.
-#[derive(Drop)]
+#[derive(Clone, Copy)]
 pub struct Counts {
     pub first: u64,
     pub second: u64,
@@ -19,7 +19,7 @@ impl Counts {
 }
 
 // The MWh of each interval.
-#[derive(Drop)]
+#[derive(Clone, Copy)]
 pub struct Intervals {
     pub first: u64,
     pub second: u64,
@@ -56,7 +56,7 @@ impl Intervals {
 }
 
 // The four sums, or the number of the refusal.
-#[derive(Drop)]
+#[derive(Clone, Copy)]
 pub enum CurvesAnswer {
     Stands(Intervals),
     Refused(u64),

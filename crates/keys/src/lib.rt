@@ -9,7 +9,7 @@ use kinds::Kind;
 use refusals::pick;
 
 // A transaction is known by its key; all bids of one key are one group.
-#[derive(Drop)]
+#[derive(Clone, Copy)]
 pub struct Key {
     pub kind: u64,
     pub path: u64,

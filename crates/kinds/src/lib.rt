@@ -6,7 +6,7 @@ ghost use Rattle.kinds.specs.Kinds.{is_kind, is_path, has_stage, has_one_curve, 
 use amounts::{Amount, Differential, Price, Quantity};
 
 // How far a transaction has come; 0 is a free place.
-#[derive(Drop)]
+#[derive(Clone, Copy)]
 pub struct Stage {
     pub number: u64,
 }
@@ -24,7 +24,7 @@ impl Stage {
 }
 
 // A row of the table.
-#[derive(Drop)]
+#[derive(Clone, Copy)]
 pub struct Rules {
     // The last path; the first is 1.
     pub paths: u64,
@@ -50,7 +50,7 @@ pub struct Rules {
     pub sides: bool,
 }
 
-#[derive(Drop)]
+#[derive(Clone, Copy)]
 pub struct Kind {
     pub number: u64,
 }

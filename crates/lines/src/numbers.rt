@@ -55,7 +55,7 @@ fn begun(last: u8, byte: u8) -> u64
 }
 
 // Where a number begins, and whether it is below 0.
-#[derive(Drop)]
+#[derive(Clone, Copy)]
 struct Place {
     at: usize,
     negative: bool,

@@ -5,7 +5,7 @@ use records::types::Record;
 use virtuals::Side;
 
 // Open and revise; the points stand beside it in two lent lists.
-#[derive(Drop)]
+#[derive(Clone, Copy)]
 pub struct Opening {
     pub key: Key,
     pub differential: u64,
@@ -13,7 +13,7 @@ pub struct Opening {
 }
 
 // The prices are a wheel's at withdrawal, then at injection; other kinds have one price, and 0.
-#[derive(Drop)]
+#[derive(Clone, Copy)]
 pub struct Posting {
     pub key: Key,
     pub schedule: u64,
@@ -21,7 +21,7 @@ pub struct Posting {
     pub second: i64,
 }
 
-#[derive(Drop)]
+#[derive(Clone, Copy)]
 pub struct Finishing {
     pub key: Key,
     pub actual: u64,
@@ -29,32 +29,32 @@ pub struct Finishing {
     pub second: i64,
 }
 
-#[derive(Drop)]
+#[derive(Clone, Copy)]
 pub struct Billing {
     pub key: Key,
     pub cents: i64,
 }
 
-#[derive(Drop)]
+#[derive(Clone, Copy)]
 pub struct Funding {
     pub cents: i64,
 }
 
 // Open and revise of four interval curves (02, order 3); the points stand beside it in two lent lists, one interval after another.
-#[derive(Drop)]
+#[derive(Clone, Copy)]
 pub struct Curves {
     pub key: Key,
     pub counts: Counts,
 }
 
 // The listed paths stand beside it in the list of whole numbers, and four interval prices for each in the list of prices (02, order 3).
-#[derive(Drop)]
+#[derive(Clone, Copy)]
 pub struct Closing {
     pub hour: u64,
 }
 
 // Open and revise of a virtual bid (02, order 6): both sides of a load zone and an hour. Its kind is the case's.
-#[derive(Drop)]
+#[derive(Clone, Copy)]
 pub struct Sides {
     pub zone: u64,
     pub hour: u64,
@@ -63,7 +63,7 @@ pub struct Sides {
 }
 
 // What was posted of a virtual bid, in MWh for each side.
-#[derive(Drop)]
+#[derive(Clone, Copy)]
 pub struct SidesPosting {
     pub zone: u64,
     pub hour: u64,
@@ -72,7 +72,7 @@ pub struct SidesPosting {
 }
 
 // Each message is one case with its own set of values.
-#[derive(Drop)]
+#[derive(Clone, Copy)]
 pub enum Message {
     Open(Opening),
     Revise(Opening),
@@ -91,7 +91,7 @@ pub enum Message {
 }
 
 // What a message on a transaction does to the places.
-#[derive(Drop)]
+#[derive(Clone, Copy)]
 pub enum Change {
     Add(Record),
     // A group replaced, with the requirement that it had.
@@ -103,7 +103,7 @@ pub enum Change {
 }
 
 // What an accepted message does to the book.
-#[derive(Drop)]
+#[derive(Clone, Copy)]
 pub enum Deed {
     Keyed(Change),
     SetSupport(i64),
@@ -112,7 +112,7 @@ pub enum Deed {
 }
 
 // Refusals 2 to 13 of a message, or what it asks for.
-#[derive(Drop)]
+#[derive(Clone, Copy)]
 pub enum Planned {
     Refused(u64),
     Asks(Deed),

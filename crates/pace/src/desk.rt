@@ -2,7 +2,7 @@
 use book::{Billing, Finishing, Funding, Key, Message, Opening, Posting};
 
 // The groups that are open, and how many hours and paths lie between the keys of two of them; none of both where the keys are spread.
-#[derive(Drop)]
+#[derive(Clone, Copy)]
 pub(crate) struct Groups {
     pub(crate) hours: u64,
     pub(crate) paths: u64,

@@ -13,7 +13,7 @@ use libc::{STDIN_FILENO, STDOUT_FILENO};
 
 const MODULUS: u64 = 2_147_483_647;
 
-#[derive(Drop)]
+#[derive(Clone, Copy)]
 struct Plan {
     price: u64,
     closes: u64,

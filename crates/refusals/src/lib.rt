@@ -1,5 +1,6 @@
 // The table of refusals: the first row that applies is given. What an entry then answers.
 #![tactic(auto)]
+
 ghost use Rattle.std.specs.Prelude.{◌≡◌, cond};
 ghost use Rattle.refusals.specs.Refusals.{or_else};
 ghost use Rattle.refusals.specs.Answers.{bid_refusal_of, bid_of, reply};
@@ -20,7 +21,7 @@ pub fn or_else(above: u64, below: u64) -> u64
 }
 
 // An amount in cents, or the number of the refusal.
-#[derive(Drop)]
+#[derive(Clone, Copy)]
 pub enum Figure {
     Cents(i64),
     Refused(u64),
@@ -49,14 +50,14 @@ impl Figure {
 }
 
 // A bid group: its bid MWh, and its requirement in cents.
-#[derive(Drop)]
+#[derive(Clone, Copy)]
 pub struct Bid {
     pub mwh: u64,
     pub cents: i64,
 }
 
 // A bid, or the number of the refusal.
-#[derive(Drop)]
+#[derive(Clone, Copy)]
 pub enum BidAnswer {
     Stands(Bid),
     Refused(u64),
@@ -85,7 +86,7 @@ impl BidAnswer {
 }
 
 // What a message answers: held and net owed, and its requirement or the number of the refusal.
-#[derive(Drop)]
+#[derive(Clone, Copy)]
 pub enum Answer {
     Accepted {
         requirement: i64,

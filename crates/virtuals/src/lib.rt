@@ -10,7 +10,7 @@ use amounts::Differential;
 use refusals::{Figure, pick};
 
 // One side of a virtual bid: MWh, bid or posted, and the differential that they are held at, in cents per MWh.
-#[derive(Drop)]
+#[derive(Clone, Copy)]
 pub struct Side {
     pub mwh: u64,
     pub differential: u64,
@@ -33,7 +33,7 @@ impl Side {
 }
 
 // What a record keeps of its supply side: MWh and differential as bid, and the MWh that were posted.
-#[derive(Drop)]
+#[derive(Clone, Copy)]
 pub struct Supply {
     pub mwh: u64,
     pub differential: u64,

@@ -12,7 +12,7 @@ use messages::types::{Message, Opening};
 use twos::twos;
 
 // How many bytes were written, or the number of the refusal.
-#[derive(Drop)]
+#[derive(Clone, Copy)]
 pub enum Written {
     Refused(u64),
     Bytes(usize),

@@ -6,8 +6,7 @@ use native.Mathlib.Omega.{arith}
 use lib.Dec.{eqb}
 use Rattle.chart.specs.Groups.{has, period_of}
 use Rattle.chart.proofs.Ranges.{every, equal}
-use Rattle.chart.proofs.groups.period.Statement.{statement}
-use Rattle.chart.proofs.groups.period.Tie as tie
+use Rattle.chart.proofs.groups.period.Goals as goal
 
 on : (p d first count : ℕ) → every (λ h. eqb p (period_of d h)) first count ≡ true → (day h : ℕ) → day ≡ d → first ≤ h → h < first + count → p ≡ period_of day h
 on p d first count e day h same low high = rw same (equal (λ h. p) (period_of d) first count e h low high)
@@ -48,32 +47,29 @@ holiday-from-23 : every (λ h. eqb 5 (period_of 1 h)) 23 1 ≡ true
 unfolding period_of has
 holiday-from-23 = refl
 
-returns : tie.Need-returns
-returns c = on 0 0 7 4 from-7 _ _ (omega arith) (omega arith) (omega arith)
+pub returns-in-7-to-10 : goal.returns-in-7-to-10
+returns-in-7-to-10 c = on 0 0 7 4 from-7 _ _ (omega arith) (omega arith) (omega arith)
 
-returns-2 : tie.Need-returns-2
-returns-2 c = on 1 0 11 4 from-11 _ _ (omega arith) (omega arith) (omega arith)
+pub returns-in-11-to-14 : goal.returns-in-11-to-14
+returns-in-11-to-14 c = on 1 0 11 4 from-11 _ _ (omega arith) (omega arith) (omega arith)
 
-returns-3 : tie.Need-returns-3
-returns-3 c = on 2 0 15 4 from-15 _ _ (omega arith) (omega arith) (omega arith)
+pub returns-in-15-to-18 : goal.returns-in-15-to-18
+returns-in-15-to-18 c = on 2 0 15 4 from-15 _ _ (omega arith) (omega arith) (omega arith)
 
-returns-4 : tie.Need-returns-4
-returns-4 c = on 3 0 19 4 from-19 _ _ (omega arith) (omega arith) (omega arith)
+pub returns-in-19-to-22 : goal.returns-in-19-to-22
+returns-in-19-to-22 c = on 3 0 19 4 from-19 _ _ (omega arith) (omega arith) (omega arith)
 
-returns-5 : tie.Need-returns-5
-returns-5 c = on 5 0 0 7 before-7 _ _ (omega arith) (omega arith) (omega arith)
+pub returns-in_default-hour : goal.returns-in_default-hour
+returns-in_default-hour c = on 5 0 0 7 before-7 _ _ (omega arith) (omega arith) (omega arith)
 
-returns-6 : tie.Need-returns-6
-returns-6 c = on 5 0 23 1 from-23 _ _ (omega arith) (omega arith) (omega arith)
+pub returns-in_default-hour-3 : goal.returns-in_default-hour-3
+returns-in_default-hour-3 c = on 5 0 23 1 from-23 _ _ (omega arith) (omega arith) (omega arith)
 
-returns-7 : tie.Need-returns-7
-returns-7 c = on 4 1 7 16 holiday _ _ (omega arith) (omega arith) (omega arith)
+pub returns-in-7-to-22 : goal.returns-in-7-to-22
+returns-in-7-to-22 c = on 4 1 7 16 holiday _ _ (omega arith) (omega arith) (omega arith)
 
-returns-8 : tie.Need-returns-8
-returns-8 c = on 5 1 0 7 holiday-before-7 _ _ (omega arith) (omega arith) (omega arith)
+pub returns-in_default-hour-2 : goal.returns-in_default-hour-2
+returns-in_default-hour-2 c = on 5 1 0 7 holiday-before-7 _ _ (omega arith) (omega arith) (omega arith)
 
-returns-9 : tie.Need-returns-9
-returns-9 c = on 5 1 23 1 holiday-from-23 _ _ (omega arith) (omega arith) (omega arith)
-
-pub period-spec : {M : Type 1} → statement M
-period-spec = tie.close (tie.spec returns returns-2 returns-3 returns-4 returns-5 returns-6 returns-7 returns-8 returns-9)
+pub returns-in_default-hour-2-2 : goal.returns-in_default-hour-2-2
+returns-in_default-hour-2-2 c = on 5 1 23 1 holiday-from-23 _ _ (omega arith) (omega arith) (omega arith)
