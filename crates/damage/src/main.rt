@@ -8,7 +8,6 @@ mod writing;
 ghost use Rattle.std.specs.Prelude.{◌≤◌};
 
 use draws::{Drawn, draw};
-use libc::STDOUT_FILENO;
 use tally::Tally;
 use tapes::{Written, write};
 

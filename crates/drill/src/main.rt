@@ -19,12 +19,14 @@ mod tally;
 mod trials;
 mod values;
 
-use libc::STDIN_FILENO;
 use lines::numbers::whole;
+
+// The C library's number of the stream.
+const STDIN: i32 = 0;
 
 fn main() {
     let mut input = [0u8; 128];
-    let read = io::read_full(STDIN_FILENO, &mut input);
+    let read = io::read_full(STDIN, &mut input);
     let text = &input[..read];
     run::run(run::Plan {
         turns: whole(text, 0),

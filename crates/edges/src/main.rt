@@ -11,7 +11,9 @@ mod scripts;
 ghost use Rattle.std.specs.Prelude.{◌≤◌, length};
 
 use book::Book;
-use libc::STDIN_FILENO;
+
+// The C library's number of the stream.
+const STDIN: i32 = 0;
 
 // The end of the line that goes on from here.
 fn line_end(text: &[u8], from: usize) -> usize
@@ -47,6 +49,6 @@ fn run(text: &[u8]) {
 
 fn main() {
     let mut space = [0u8; 131_072];
-    let read = io::read_full(STDIN_FILENO, &mut space);
+    let read = io::read_full(STDIN, &mut space);
     run(&space[..read]);
 }

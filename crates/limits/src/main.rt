@@ -2,9 +2,11 @@
 #![tactic(auto)]
 use closings::types::Quote;
 use intervals::types::Intervals;
-use libc::STDOUT_FILENO;
 use refusals::{BidAnswer, Figure};
 use virtuals::Side;
+
+// The C library's number of the stream.
+const STDOUT: i32 = 1;
 
 const U64_MAX: u64 = 18_446_744_073_709_551_615;
 
@@ -13,12 +15,12 @@ const I64_MIN: i64 = -9_223_372_036_854_775_808;
 const I64_MAX: i64 = 9_223_372_036_854_775_807;
 
 fn print(word: &[u8]) {
-    io::write_all(STDOUT_FILENO, word);
+    io::write_all(STDOUT, word);
 }
 
 fn whole(word: &[u8], value: u64) {
     print(word);
-    io::print_decimal(STDOUT_FILENO, value);
+    io::print_decimal(STDOUT, value);
 }
 
 fn cents(word: &[u8], value: i64) {
@@ -26,7 +28,7 @@ fn cents(word: &[u8], value: i64) {
     if value < 0 {
         print(b"-");
     }
-    io::print_decimal(STDOUT_FILENO, amounts::magnitude(value));
+    io::print_decimal(STDOUT, amounts::magnitude(value));
 }
 
 fn answered(refusal: u64, amount: i64) {

@@ -3,16 +3,18 @@
 #![tactic(auto)]
 pub mod numbers;
 
-use libc::STDOUT_FILENO;
+
+// The C library's number of the stream.
+const STDOUT: i32 = 1;
 
 pub fn print(word: &[u8]) {
-    io::write_all(STDOUT_FILENO, word);
+    io::write_all(STDOUT, word);
 }
 
 // A space, and the number.
 pub fn number(value: u64) {
     print(b" ");
-    io::print_decimal(STDOUT_FILENO, value);
+    io::print_decimal(STDOUT, value);
 }
 
 // A space, and the number with its sign.
@@ -21,5 +23,5 @@ pub fn cents(value: i64) {
     if value < 0 {
         print(b"-");
     }
-    io::print_decimal(STDOUT_FILENO, amounts::magnitude(value));
+    io::print_decimal(STDOUT, amounts::magnitude(value));
 }

@@ -4,7 +4,9 @@
 
 use chart::{Answer, Edition, Table};
 use history::{History, Window};
-use libc::STDOUT_FILENO;
+
+// The C library's number of the stream.
+const STDOUT: i32 = 1;
 
 const U64_MAX: u64 = 18_446_744_073_709_551_615;
 
@@ -33,12 +35,12 @@ fn main() {
 }
 
 fn print(word: &[u8]) {
-    io::write_all(STDOUT_FILENO, word);
+    io::write_all(STDOUT, word);
 }
 
 fn print_after(word: &[u8], value: u64) {
     print(word);
-    io::print_decimal(STDOUT_FILENO, value);
+    io::print_decimal(STDOUT, value);
 }
 
 fn print_table(table: Table) {

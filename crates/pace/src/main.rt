@@ -9,7 +9,10 @@ mod hour;
 
 use book::{Account, Answer, Book, Message, Outcome};
 use desk::Groups;
-use libc::{STDIN_FILENO, STDOUT_FILENO};
+
+// The C library's numbers of the streams.
+const STDIN: i32 = 0;
+const STDOUT: i32 = 1;
 
 const MODULUS: u64 = 2_147_483_647;
 
@@ -152,13 +155,13 @@ fn run(start: Outcome, groups: Groups, messages: u64, before: u64) -> u64 {
 }
 
 fn number(name: &[u8], value: u64) {
-    io::write_all(STDOUT_FILENO, name);
-    io::print_decimal(STDOUT_FILENO, value);
+    io::write_all(STDOUT, name);
+    io::print_decimal(STDOUT, value);
 }
 
 fn main() {
     let mut input = [0u8; 64];
-    io::read_full(STDIN_FILENO, &mut input);
+    io::read_full(STDIN, &mut input);
     let plan = read(&input);
     let groups = plan.groups();
     number(b"open ", groups.open);
@@ -167,5 +170,5 @@ fn main() {
     let sent = hour::sent(plan.price, plan.closes, plan.opens);
     let digest = asked(full.book.account, plan.questions, sent);
     number(b" digest ", run(full, groups, plan.messages, digest));
-    io::write_all(STDOUT_FILENO, b"\n");
+    io::write_all(STDOUT, b"\n");
 }

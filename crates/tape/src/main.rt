@@ -9,7 +9,6 @@ mod script;
 
 ghost use Rattle.std.specs.Prelude.{◌≤◌, length};
 
-use libc::{STDIN_FILENO, STDOUT_FILENO};
 use tapes::Written;
 
 // The end of the line that goes on from here.
@@ -27,6 +26,10 @@ pub(crate) fn line_end(text: &[u8], from: usize) -> usize
     at
 }
 
+// The C library's numbers of the streams.
+const STDIN: i32 = 0;
+const STDOUT: i32 = 1;
+
 // One line, as its tape.
 fn write_line(line: &[u8]) {
     if script::is_message(line) {
@@ -43,7 +46,7 @@ fn write_line(line: &[u8]) {
         match written {
             Written::Bytes(length) => {
                 let all = length % 289;
-                io::write_all(STDOUT_FILENO, &buffer[0..all]);
+                io::write_all(STDOUT, &buffer[0..all]);
             }
             Written::Refused(number) => say::refused(line, number),
         }
@@ -95,7 +98,7 @@ fn main() {
     let mut word = [0u8; 8];
     let length = os::arg(1, &mut word);
     let mut space = [0u8; 131_072];
-    let all = io::read_full(STDIN_FILENO, &mut space);
+    let all = io::read_full(STDIN, &mut space);
     if length == 0 {
         day::day(&space[..all]);
     } else if word[0] == b'w' {

@@ -1,9 +1,11 @@
 // What is written: a message as its line, and the answers.
 use book::Answer;
 use keys::Key;
-use libc::STDERR_FILENO;
 use lines::{cents, number, print};
 use messages::types::{Message, Opening};
+
+// The C library's number of the stream.
+const STDERR: i32 = 2;
 
 fn key(key: Key) {
     number(key.kind);
@@ -93,8 +95,8 @@ pub(crate) fn answer(given: Answer) {
 
 // To whoever runs the program, beside what it writes.
 pub(crate) fn refused(what: &[u8], refusal: u64) {
-    io::write_all(STDERR_FILENO, what);
-    io::write_all(STDERR_FILENO, b": refused ");
-    io::print_decimal(STDERR_FILENO, refusal);
-    io::write_all(STDERR_FILENO, b"\n");
+    io::write_all(STDERR, what);
+    io::write_all(STDERR, b": refused ");
+    io::print_decimal(STDERR, refusal);
+    io::write_all(STDERR, b"\n");
 }
