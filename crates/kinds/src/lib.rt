@@ -1,5 +1,6 @@
 // What a kind decides, at every stage: one table, a row a kind. The numbers of kinds and stages.
 #![tactic(auto)]
+
 ghost use Rattle.std.specs.Prelude.{◌≡◌};
 ghost use Rattle.kinds.specs.Kinds.{is_kind, is_path, has_stage, has_one_curve, is_scheduled, differential_fits, bid_mwh_fits, pending_fits, prices_fit, unless_exempt, rules_of};
 
