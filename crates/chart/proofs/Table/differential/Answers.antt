@@ -1,16 +1,11 @@
 -- `chart::Table::differential` meets its contract: a table's buses stand one after the other, 18 groups each.
 use mathlib.Core.Path.{ap, ◌∙◌}
-use Prim.Native.Nat.{ℕ, ◌+◌, ◌-◌, ◌*◌, ◌≤◌}
-use native.Mathlib.Nat.{le_trans, le_of_eq}
+use Prim.Native.Nat.{ℕ, ◌+◌, ◌-◌, ◌*◌}
 use native.Mathlib.Omega.{arith}
-use borrow.Author.Rules.{rules}
 use lib.ListN.{get_or}
 use Rattle.chart.specs.Published.{published}
-use Rattle.chart.proofs.Places.{placed, start-last}
+use Rattle.chart.proofs.Places.{placed}
 use Rattle.chart.proofs.Table.differential.Goals as goal
-
-start-low : (c : goal.After-start) → c.start.result ≤ 180
-start-low c = le_trans (le_of_eq c.start.ensures) (start-last c.args.self)
 
 pub returns : goal.returns
 returns c =

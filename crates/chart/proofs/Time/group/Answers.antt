@@ -4,15 +4,11 @@ use Prim.Native.Nat.{ℕ, ◌+◌, ◌*◌}
 use native.Mathlib.Omega.{arith}
 use Rattle.chart.specs.declared.Time.{Time}
 use Rattle.chart.specs.Groups.{eighteen, group_in}
-use Rattle.chart.proofs.Parted.{Within, within}
 use Rattle.chart.proofs.Eighteen.{eighteen-parted, agree, season-last}
 use Rattle.chart.proofs.Time.group.Goals as goal
 
 abbrev chosen : Time → ℕ
 chosen t = group_in eighteen t.month t.day t.hour
-
-inside : (c : goal.Start) → Within c.args.self.month c.args.self.day c.args.self.hour
-inside c = let s = c.args.self in within s.month s.day s.hour c.requires
 
 pub overflow_mul-result : goal.overflow_mul-result
 overflow_mul-result c = omega (arith, c.season.ensures, season-last c.args.self.month)

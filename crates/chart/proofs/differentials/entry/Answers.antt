@@ -1,6 +1,5 @@
 -- `chart::differentials::entry` meets its contract: the constant is, number by number, the published list.
 use mathlib.Core.Path.{refl}
-use borrow.Author.Rules.{rules}
 use Rattle.chart.specs.Published.{import_table, export_table, published}
 use Rattle.chart.proofs.differentials.entry.Goals as goal
 

@@ -1,7 +1,6 @@
 -- `chart::newer::group` meets its contract: the constant is, place by place, the chart of 33 groups.
 use mathlib.Core.Path.{refl}
 use native.Mathlib.Omega.{arith}
-use borrow.Author.Rules.{rules}
 use Rattle.chart.specs.Groups.{has, thirty_three, groups_at, group_in}
 use Rattle.chart.proofs.ThirtyThree.{by-hour, listed}
 use Rattle.chart.proofs.newer.group.Goals as goal
