@@ -1,5 +1,6 @@
 // Fifteen-minute scheduling bids (02, order 3): four interval curves, what turns them away, and their MWh sums.
 #![tactic(auto)]
+
 mod entry;
 pub mod types;
 

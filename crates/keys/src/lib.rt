@@ -1,5 +1,6 @@
 // What a transaction is known by: its key, and the ranges of its parts.
 #![tactic(auto)]
+
 ghost use Rattle.std.specs.Prelude.{◌≡◌};
 ghost use Rattle.refusals.specs.Refusals.{first};
 ghost use Rattle.kinds.specs.Kinds.{is_kind, is_path, rules_of};
