@@ -3,6 +3,7 @@
 // Each number falls in a bucket; the places of a bucket are chained, the latest first, so that a number is compared with
 // those of its bucket alone.
 #![tactic(auto)]
+
 ghost use Rattle.std.specs.Prelude.{true, false, ◌≡◌, ◌<◌, get_or};
 ghost use Rattle.distinct.specs.Numbers.{all_distinct};
 ghost use Rattle.distinct.specs.Chain.{bucket_of, Latest, Linked, Unmet};

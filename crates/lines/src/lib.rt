@@ -1,8 +1,8 @@
 // Lines of text for the programs: the numbers of a line that is read, and the words and numbers of one that is written. No contract can say
 // what is written: the three functions that write are proved not to trap or wrap and to end, and the programs' output is compared.
 #![tactic(auto)]
-pub mod numbers;
 
+pub mod numbers;
 
 // The C library's number of the stream.
 const STDOUT: i32 = 1;

@@ -1,12 +1,8 @@
 -- Each place is compared with the chain of its bucket, which leads to every number before it that could be its own.
 -- Assumes nothing.
 use Prim.Native.Nat.{◌-◌}
-use mathlib.Core.Path.{sym}
-use mathlib.Core.Logic.{⊎_elim}
-use borrow.Author.Rules.{rules}
-use native.Mathlib.Omega.{arith}
 use lib.ListN.{length}
-use Rattle.distinct.proofs.Laws.{Chained, chains-start, chains-pass, chains-grow, apart-true}
+use Rattle.distinct.proofs.Laws.{Chained}
 use Rattle.distinct.proofs.all_distinct.Given as goal
 
 abbrev pub invariant-loop-place : goal.invariant-loop-place

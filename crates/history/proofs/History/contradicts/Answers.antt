@@ -1,6 +1,5 @@
 -- `history::History::contradicts` meets its contract: its three tests are the definition's, in its order.
 use mathlib.Core.Bool.{◌||◌}
-use borrow.Author.Rules.{rules}
 use Rattle.history.specs.Test.{contradict}
 use Rattle.history.proofs.History.contradicts.Goals as goal
 
