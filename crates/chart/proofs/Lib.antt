@@ -1,4 +1,5 @@
 pub mod Ranges
+pub mod Seasons
 pub mod Parted
 pub mod Eighteen
 pub mod ThirtyThree

@@ -6,6 +6,7 @@ ghost use Rattle.chart.specs.Groups.{season_of, period_of};
 use crate::Time;
 
 // 0 is summer, 1 winter, 2 the rest of the year.
+#[tactic(auto, using(crate::proofs::Seasons::seasons))]
 pub(crate) fn season(month: u64) -> u64
     requires { month ≤ 12 }
     ensures { result ≡ season_of month }
