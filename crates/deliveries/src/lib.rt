@@ -1,5 +1,6 @@
 // What turns a post, a finish or a bill away by its own numbers: the rows of each entry, in the table's order.
 #![tactic(auto)]
+
 ghost use Rattle.std.specs.Prelude.{◌≡◌, ◌∷◌};
 ghost use Rattle.refusals.specs.Refusals.{first};
 ghost use Rattle.kinds.specs.Kinds.{kind_row};

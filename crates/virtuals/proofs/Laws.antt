@@ -7,9 +7,9 @@ use native.Mathlib.Nat.{zero-mul, le_trans, le_refl}
 use native.Mathlib.Omega.{arith}
 use borrow.Author.Tests.{lt-ltb, le-ltb, ltb-true, ltb-false, eqb-true, eqb-false, leb-true, not-false}
 use lib.Dec.{ltb, eqb}
-use lib.IntN.{ℤ, pos}
+use lib.IntN.{pos}
 use lib.Signed.{◌≤ℤ◌}
-use Rattle.amounts.specs.Amount.{max_of, Range}
+use Rattle.amounts.specs.Amount.{Range}
 use Rattle.amounts.specs.Limits.{is_differential}
 use Rattle.amounts.proofs.Signed.{signed, larger-of, mul_mono, tested}
 use Rattle.refusals.specs.Refusals.{first, None, judge}

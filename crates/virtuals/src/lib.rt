@@ -1,5 +1,6 @@
 // Virtual bids by load zone (02, order 6): load and supply of one zone and hour. What turns them away by their own numbers, and what they require.
 #![tactic(auto)]
+
 ghost use Rattle.std.specs.Prelude.{◌≡◌, true, ◌*◌, pos};
 ghost use Rattle.amounts.specs.Limits.{is_differential};
 ghost use Rattle.refusals.specs.Refusals.{first, None};
