@@ -1,5 +1,6 @@
 // Stage 1: the bid MWh and the requirement of a group, for kinds 1 to 4.
 #![tactic(auto)]
+
 mod bids;
 mod points;
 pub mod types;
