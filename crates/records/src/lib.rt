@@ -1,4 +1,5 @@
 // One transaction: its record, and when it is sound.
 #![tactic(auto)]
+
 pub mod records;
 pub mod types;
