@@ -27,7 +27,7 @@ use Rattle.keys.specs.declared.Key.{Key}
 use Rattle.keys.specs.Keys.{key_rows}
 use Rattle.records.specs.declared.types.Record.{Record}
 use Rattle.records.specs.Records.{is_free}
-use Rattle.messages.specs.Plan.{Message, Opening, Curves, Open, Revise, Withdraw, Post, Finish, Bill, Pay, Support, OpenCurves, ReviseCurves, Close, OpenSides, ReviseSides, PostSides, Sides, SidesPosting, zone_key, stage_rows, plan_rows}
+use Rattle.messages.specs.Plan.{Message, Opening, Curves, Open, Revise, Withdraw, Post, Finish, Bill, Pay, Support, OpenCurves, ReviseCurves, Close, OpenSides, ReviseSides, PostSides, Sides, zone_key, stage_rows, plan_rows}
 
 -- ---- no row has the number 0
 key-rows-numbered : (k : Key) → numbered (key_rows k) ≡ true
