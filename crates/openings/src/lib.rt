@@ -1,5 +1,6 @@
 // What an open and a revise, of one curve or of four or of two sides, ask of the record under their key, or refusals 2 to 12. `old` is that record, blank where the key is not open.
 #![tactic(auto)]
+
 ghost use Rattle.std.specs.Prelude.{◌≡◌, []};
 ghost use Rattle.messages.specs.Plan.{opened_record, plan, planned};
 

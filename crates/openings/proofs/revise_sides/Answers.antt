@@ -1,0 +1,30 @@
+-- `revise_sides`: its table is the key's rows over the sides' over the stage's; what it asks for is the record of the new sides, and the old requirement.
+use mathlib.Core.List.{[]}
+use mathlib.Core.Path.{ap}
+use Prim.Native.Nat.{ℕ}
+use Rattle.amounts.proofs.Steps.{back}
+use Rattle.refusals.specs.Refusals.{judge, answered}
+use Rattle.messages.specs.declared.types.Message.TheVariants.{ReviseSides}
+use Rattle.messages.specs.Plan.{sides_for, plan, deed_for, planned}
+use Rattle.messages.proofs.Tables.{revise-sides-table}
+use Rattle.openings.proofs.revise_sides.Goals as goal
+
+pub returns : goal.returns
+unfolding plan judge sides_for
+returns c =
+    let a = c.args in
+    rw (
+      c.answer.ensures,
+      c.sides-made.ensures,
+      back c.cents.result c.cents.type_inv,
+      c.cents.ensures,
+      c.or_else-number.ensures,
+      c.or_else.ensures,
+      c.stage_refusal.ensures,
+      c.refusal-2.ensures,
+      c.refusal.ensures,
+      c.bid-figure.ensures,
+      c.zone_key-key.ensures,
+      back a.old.requirement c.struct_told-1.given.1.1.1.1.1.1.1.0.1,
+    )
+    (ap (λ (n : ℕ). planned (answered n (deed_for a.old (ReviseSides a.sides) [] []))) (revise-sides-table a.old a.sides [] []))
