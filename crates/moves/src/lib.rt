@@ -1,5 +1,6 @@
 // What each later message, a support change and a close ask of the record under its key, or refusals 2 to 13. `old` is that record, blank where the key is not open.
 #![tactic(auto)]
+
 mod bills;
 mod closes;
 mod finishes;
