@@ -1,5 +1,6 @@
 // The fourteen messages as one: the key that any of them has, and what it asks of the record under it.
 #![tactic(auto)]
+
 ghost use Rattle.std.specs.Prelude.{◌≡◌};
 ghost use Rattle.messages.specs.Plan.{key_of, plan, planned};
 
