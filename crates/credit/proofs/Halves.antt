@@ -1,15 +1,15 @@
 -- Twice a net owed, for any i64: where it leaves an i64, net owed alone decides the test of suspension.
 -- Assumes nothing.
-use mathlib.Core.Path.{◌≡◌, refl, sym, ◌∙◌}
+use mathlib.Core.Path.{◌≡◌, refl}
 use mathlib.Core.Bool.{Bool, true, false}
-use Prim.Native.Nat.{ℕ, ◌<◌, ◌≤◌, ◌^◌}
+use Prim.Native.Nat.{◌<◌, ◌≤◌}
 use native.Mathlib.Omega.{arith}
 use lib.IntN.{ℤ, pos, negsuc, ◌*ℤ◌}
 use lib.Signed.{le_z, lt_z}
 use mir.Syntax.{w64}
 use mir.Val.{SFits}
 use Rattle.amounts.specs.Amount.{up, down}
-use Rattle.amounts.proofs.Signed.{signed, le_z-true, le_z-false, lt_z-true, lt_z-false, times-of, one_side}
+use Rattle.amounts.proofs.Signed.{le_z-true, le_z-false, lt_z-true, lt_z-false, times-of, one_side}
 
 pub record Bounds (z : ℤ) : Type 0 where
   pub high : up z < 9223372036854775808
