@@ -1,5 +1,6 @@
 // The formulas at the limits of document 01's numbers and past them, one line each: what is asked, then the refusal's number or 0, and the amount.
 #![tactic(auto)]
+
 use closings::types::Quote;
 use intervals::types::Intervals;
 use refusals::{BidAnswer, Figure};

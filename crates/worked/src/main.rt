@@ -1,5 +1,6 @@
 // Document 01's worked examples: one line each, its label, a space, the amount in cents.
 #![tactic(auto)]
+
 mod examples;
 
 use refusals::Figure;
