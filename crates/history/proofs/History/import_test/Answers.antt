@@ -1,5 +1,6 @@
 -- `history::History::import_test` meets its contract: its branches are the cases of which window counts.
 use mathlib.Core.Path.{sym, ◌∙◌}
+use native.Mathlib.Omega.{arith}
 use Rattle.history.proofs.Windows.{consistent}
 use Rattle.history.proofs.Answers.{refuses, by_three, by-six, by-none}
 use Rattle.history.proofs.History.import_test.Goals as goal
@@ -8,10 +9,10 @@ pub returns-then-contradicts : goal.returns-then-contradicts
 returns-then-contradicts c = sym (refuses c.args.self (sym c.contradicts.ensures ∙ c.if-contradicts.true))
 
 pub judge-requires : goal.judge-requires
-judge-requires c = (consistent _ (sym c.contradicts.ensures ∙ c.if-contradicts.false)).three.loss_most
+judge-requires c = let all = consistent _ (sym c.contradicts.ensures ∙ c.if-contradicts.false) in omega arith
 
 pub judge-requires-then-counts-2 : goal.judge-requires-then-counts-2
-judge-requires-then-counts-2 c = (consistent _ (sym c.contradicts.ensures ∙ c.if-contradicts.false)).six.loss_most
+judge-requires-then-counts-2 c = let all = consistent _ (sym c.contradicts.ensures ∙ c.if-contradicts.false) in omega arith
 
 pub returns-then-counts : goal.returns-then-counts
 returns-then-counts c =
