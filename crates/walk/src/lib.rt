@@ -1,5 +1,6 @@
 // What one walk over a book's places finds, place by place.
 #![tactic(auto)]
+
 mod codes;
 mod steps;
 mod summing;

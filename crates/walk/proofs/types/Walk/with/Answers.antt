@@ -9,8 +9,7 @@ use Rattle.records.proofs.Places.{place-free, free-at}
 use Rattle.credit.specs.Sums.{with_record}
 use Rattle.credit.proofs.Parts.{with-blank}
 use Rattle.walk.specs.Walk.{Walk, more}
-use Rattle.walk.proofs.types.Walk.with.Statement.{statement}
-use Rattle.walk.proofs.types.Walk.with.Tie as tie
+use Rattle.walk.proofs.types.Walk.with.Goals as goal
 
 module _ (s : Walk) (r : Record) (k : Key) (n : ℕ) where
   more-used : is_free r ≡ false → record { sums = with_record s.sums r; free = s.free; at = cond (at_key k r) n s.at } ≡ more s r k n
@@ -27,33 +26,18 @@ module _ (s : Walk) (r : Record) (k : Key) (n : ℕ) where
         at = ap (λ (b : Bool). cond b n s.at) (sym (free-at k r free)) i;
       }
 
-is-free-requires : tie.Need-is-free-requires
-is-free-requires c κs = tt
+pub returns-then-is_free : goal.returns-then-is_free
+returns-then-is_free c =
+    let s = c in
+    more-free s.args.self s.args.r s.args.key s.args.place s.requires.r_value (sym c.is_free.ensures ∙ c.if-is_free.true)
 
-returns : tie.Need-returns
+pub returns : goal.returns
 returns c =
-    let s = c.before.before.before in
-    more-free s.args.self s.args.r s.args.key s.args.place s.requires.1 (sym c.before.is_free.ensures ∙ c.if1.true)
-
-with-requires : tie.Need-with-requires
-with-requires c κs = let s = c.before.before.before in s.requires
-
-is-at-requires : tie.Need-is-at-requires
-is-at-requires c κs = tt
-
-pick-requires : tie.Need-pick-requires
-pick-requires c κs = tt
-
-returns-2 : tie.Need-returns-2
-returns-2 c =
-    let f = c.before.before.before in
-    let a = f.before.before.before.args in
+    let f = c in
+    let a = f.args in
     (λ i. record {
-      sums = c.before.before.with.ensures i;
+      sums = c.with.ensures i;
       free = a.self.free;
-      at = (c.pick.ensures ∙ ap (λ (b : Bool). cond b a.place a.self.at) c.before.is_at.ensures) i;
+      at = (c.pick.ensures ∙ ap (λ (b : Bool). cond b a.place a.self.at) c.is_at.ensures) i;
     })
-    ∙ more-used a.self a.r a.key a.place (sym f.before.is_free.ensures ∙ f.if1.false)
-
-pub with-spec : {M : Type 1} → statement M
-with-spec = tie.close (tie.spec is-free-requires returns with-requires is-at-requires pick-requires returns-2)
+    ∙ more-used a.self a.r a.key a.place (sym f.is_free.ensures ∙ f.if-is_free.false)
