@@ -11,3 +11,4 @@ pub mod Kept
 mod Closed
 pub mod Written
 mod Shown
+mod Applied

@@ -1,5 +1,6 @@
 // One customer's book: the one door. All that a caller needs of messages, records and answers is named here too.
 #![tactic(auto)]
+
 mod apply;
 mod closes;
 mod fresh;
