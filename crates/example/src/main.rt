@@ -1,5 +1,6 @@
 // The example of README's 'How to call the library', as it stands there: tools/readme-example compares the two.
 #![tactic(auto)]
+
 mod say;
 
 use book::*;
