@@ -28,7 +28,7 @@ use Rattle.credit.specs.Credit.{suspended, credit_rows}
 use Rattle.batches.specs.Batches.{batch_cents}
 use Rattle.batches.proofs.Laws.{batch-range}
 use Rattle.book.specs.declared.types.Book.{Book}
-use Rattle.book.specs.Books.{lookup, sound, held, owed, full, totals}
+use Rattle.book.specs.Books.{lookup, sound, full, totals}
 use Rattle.book.specs.Step.{too_much}
 use Rattle.book.proofs.Places.{every-find}
 use Rattle.book.proofs.Kept.{sound-places, lookup-some}
