@@ -4,6 +4,7 @@
 // an hour, and `span` does with many paths; other lines begin a fresh book, look at a place or at the sums (support, held, net owed), `rebuild` the book,
 // or make a book that no message makes (`write` a place, `endow` with a support, `make` other totals).
 #![tactic(auto)]
+
 mod act;
 mod say;
 mod scripts;
