@@ -4,6 +4,7 @@
 // to a full book of pending bids, each to the book as it was.
 // `bench/speed` times it beside the reference, whose `pace` sends the same messages and prints the same line.
 #![tactic(auto)]
+
 mod desk;
 mod hour;
 
@@ -12,6 +13,7 @@ use desk::Groups;
 
 // The C library's numbers of the streams.
 const STDIN: i32 = 0;
+
 const STDOUT: i32 = 1;
 
 const MODULUS: u64 = 2_147_483_647;
