@@ -1,11 +1,11 @@
 // What a turn asks of the book: its message, from the draws and the record at the place that was drawn.
 ghost use Rattle.std.specs.Prelude.{◌<◌};
 
-use crate::closings::Listing;
+use crate::closes::Listing;
 use crate::generator::{draw, has};
 use crate::points::Lengths;
 use crate::values::{either, one_of, one_of_cents};
-use crate::{closings, generator, points, values};
+use crate::{closes, generator, points, values};
 use book::{
     Billing, Closing, Curves, Finishing, Funding, Key, Kind, Message, Opening, Posting, Record,
     Stage,
@@ -287,8 +287,8 @@ impl Ask {
 
     // A close, with what it lists where these are the pending bids of the hour drawn; r is the record drawn.
     pub(crate) fn closing(self, seed: u64, pending: Listing, r: Record) -> Ask {
-        let listing = closings::listed(pending, seed, r);
-        let hour = closings::hour_named(self.key.hour, seed);
+        let listing = closes::listed(pending, seed, r);
+        let hour = closes::hour_named(self.key.hour, seed);
         let prices = listing.prices(seed);
         let mut next = self;
         next.key.hour = hour;

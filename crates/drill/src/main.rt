@@ -3,10 +3,11 @@
 // Standard input has four numbers: how many turns to run, the first turn that has a line, the turn at which such lines end, and the
 // seed of the first turn.
 #![tactic(auto)]
+
 mod asides;
 mod ask;
 mod changes;
-mod closings;
+mod closes;
 mod digest;
 mod generator;
 mod points;

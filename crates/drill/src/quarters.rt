@@ -1,9 +1,9 @@
 // The rows of 02, order 3: batches that were kept or removed, why a close was refused, four curves, and kind 5 at each stage.
 use crate::ask::Ask;
-use crate::closings::{ADDS_ONE, ADDS_ONE_TOO, LEAVES_OUT, LISTS_NONE, NAMES_ANOTHER_HOUR};
+use crate::closes::{ADDS_ONE, ADDS_ONE_TOO, LEAVES_OUT, LISTS_NONE, NAMES_ANOTHER_HOUR};
 use crate::generator::{draw, has};
 use crate::rows::{CLOSES, Counts, QUARTERS};
-use crate::{ask, closings, generator, points, rows};
+use crate::{ask, closes, generator, points, rows};
 use book::{Answer, Kind, Record};
 use refusals::pick;
 
@@ -39,7 +39,7 @@ fn note_batch(counts: &mut Counts, ask: Ask, answer: Answer, facts: Facts) {
     let several = 2 <= ask.listing.count;
     let at_support = !removed & (answer.held() == facts.support);
     let by_a_cent = removed & facts.one_short;
-    let mixed = several & closings::in_another_order(facts.seed);
+    let mixed = several & closes::in_another_order(facts.seed);
     note(counts, true, of_batch(removed, CLOSES));
     note(
         counts,
@@ -60,7 +60,7 @@ fn row_of_11(ask: Ask, facts: Facts) -> u64 {
     let closed = (r.key.kind == Kind::QUARTER_HOUR_EXPORT)
         & (r.key.hour == ask.key.hour)
         & (2 <= r.stage);
-    match closings::way(facts.seed) {
+    match closes::way(facts.seed) {
         LEAVES_OUT => pick(none, CLOSES + 12, CLOSES + 14),
         ADDS_ONE | ADDS_ONE_TOO => pick(closed, CLOSES + 15, CLOSES + 16),
         NAMES_ANOTHER_HOUR => pick(none, 0, CLOSES + 17),
@@ -71,7 +71,7 @@ fn row_of_11(ask: Ask, facts: Facts) -> u64 {
 
 // A path twice, or prices that are not four a path.
 fn row_of_5(seed: u64) -> u64 {
-    match closings::five(seed) {
+    match closes::five(seed) {
         1 => CLOSES + 19,
         2 => CLOSES + 20,
         3 => CLOSES + 21,

@@ -3,7 +3,7 @@ use crate::ask::Ask;
 use crate::quarters::Facts;
 use crate::rows::{Counts, ROWS};
 use crate::tally::Tally;
-use crate::{asides, ask, closings, points, quarters, questions, report, rows, trials, values};
+use crate::{asides, ask, closes, points, quarters, questions, report, rows, trials, values};
 use book::{Account, Answer, Book, Record};
 use refusals::pick;
 
@@ -105,7 +105,7 @@ pub(crate) fn run(plan: Plan) {
         let r = book.records[at];
         let mut ask = Ask::of(seed, r, tally.standing());
         if ask.message == Ask::CLOSE {
-            let pending = closings::pending(book, ask.key.hour, seed);
+            let pending = closes::pending(book, ask.key.hour, seed);
             ask = ask.closing(seed, pending, r);
         }
         let n = trials::lent(ask.lengths.numbers);
