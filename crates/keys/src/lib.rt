@@ -2,12 +2,12 @@
 #![tactic(auto)]
 
 ghost use Rattle.std.specs.Prelude.{◌≡◌};
-ghost use Rattle.refusals.specs.Refusals.{first};
+ghost use Rattle.refusals.specs.Refusals.{judge, verdict_of};
 ghost use Rattle.kinds.specs.Kinds.{is_kind, is_path, rules_of};
 ghost use Rattle.keys.specs.Keys.{same_key, is_hour, key_fits, key_rows};
 
 use kinds::Kind;
-use refusals::pick;
+use refusals::{Refusal, refuse_if};
 
 // A transaction is known by its key; all bids of one key are one group.
 #[derive(Clone, Copy)]
@@ -51,13 +51,12 @@ impl Key {
     }
 
     // Refusals 2 to 4.
-    pub fn refusal(self) -> u64
-        ensures { result ≡ first (key_rows self) }
+    #[tactic(auto, unfolding(crate::specs::Keys::key_rows, refusals::specs::Refusals::judge, refusals::specs::Refusals::answered, refusals::specs::Refusals::first))]
+    pub fn check(self) -> Result<(), Refusal>
+        ensures { verdict_of result ≡ judge (key_rows self) tt }
     {
-        pick(
-            !self.kind_fits(),
-            2,
-            pick(!self.path_fits(), 3, pick(!self.hour_fits(), 4, 0)),
-        )
+        refuse_if(!self.kind_fits(), Refusal::Kind)?;
+        refuse_if(!self.path_fits(), Refusal::Path)?;
+        refuse_if(!self.hour_fits(), Refusal::Hour)
     }
 }

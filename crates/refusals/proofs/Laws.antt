@@ -5,10 +5,11 @@ use mathlib.Core.Bool.{Bool, true, false, cond, not, ◌&&◌}
 use mathlib.Core.List.{List, [], ◌∷◌, ◌++◌}
 use mathlib.Core.Logic.{inl, inr, ⊎_elim}
 use Prim.Native.Nat.{ℕ}
+use Rattle.std.specs.Prelude.{Result, Err}
 use native.Mathlib.Omega.{arith}
 use lib.Dec.{T, eqb}
 use borrow.Author.Tests.{eqb-true, eq-eqb, ne_eqb}
-use Rattle.refusals.specs.Refusals.{Row, first, Verdict, refuse, accept, answered, judge, or_else, None, First}
+use Rattle.refusals.specs.Refusals.{Refusal, Unsound, Kind, Path, Hour, Points, Quantity, Price, Differential, Amount, AlreadyOpen, NotOpen, WrongStage, AboveBid, Suspended, Full, AboveSupport, number_of, Row, row, first, Verdict, verdict_of, refuse, accept, answered, judge, or_else, None, First}
 
 -- no row has the number 0; a test that is computed, whatever the rows say
 unfoldable pub numbered : List Row → Bool
@@ -75,6 +76,29 @@ pub first-is : (n : ℕ) (rs : List Row) → First n rs → first rs ≡ n
 unfolding first First
 first-is n [] h = absurd h
 first-is n (r ∷ rs) h = ⊎_elim (λ a. rw a.0 a.1) (λ a. rw a.0 (first-is n rs a.1)) h
+
+-- every refusal has a number
+pub numbered-refusal : (e : Refusal) → not (eqb (number_of e) 0) ≡ true
+numbered-refusal Unsound = refl
+numbered-refusal Kind = refl
+numbered-refusal Path = refl
+numbered-refusal Hour = refl
+numbered-refusal Points = refl
+numbered-refusal Quantity = refl
+numbered-refusal Price = refl
+numbered-refusal Differential = refl
+numbered-refusal Amount = refl
+numbered-refusal AlreadyOpen = refl
+numbered-refusal NotOpen = refl
+numbered-refusal WrongStage = refl
+numbered-refusal AboveBid = refl
+numbered-refusal Suspended = refl
+numbered-refusal Full = refl
+numbered-refusal AboveSupport = refl
+
+pub row-numbered : (e : Refusal) (t : Bool) → numbered (row (number_of e) t ∷ []) ≡ true
+unfolding numbered
+row-numbered e t = rw (numbered-refusal e)
 
 -- ---- tables one below the other
 numbered-by : (b : Bool) (r : Row) (xs ys : List Row) → not (eqb r.number 0) ≡ true → first (xs ++ ys) ≡ or_else (first xs) (first ys) → cond b r.number (first (xs ++ ys)) ≡ or_else (cond b r.number (first xs)) (first ys)
@@ -145,3 +169,62 @@ module _ {X : Type 0} where
   pub judge-none : (rs : List Row) (x : X) → None rs → judge rs x ≡ accept x
   unfolding judge
   judge-none rs x h = rw (none_first rs h) (answered-none x)
+
+-- ---- what the code does: one table after another, each given up at the first refusal
+
+module _ {X : Type 0} where
+  is-accept : Verdict X → Bool
+  is-accept (accept x) = true
+  is-accept (refuse n) = false
+
+  number-in : Verdict X → ℕ
+  number-in (accept x) = 0
+  number-in (refuse n) = n
+
+module _ {U X : Type 0} where
+  stopped-by : (n m : ℕ) (u : U) (x : X) (below : ℕ) (b : Bool) → eqb m 0 ≡ b → ◌≡◌ {A = Verdict U} (refuse n) (cond b (accept u) (refuse m)) → ◌≡◌ {A = Verdict X} (refuse n) (answered (or_else m below) x)
+  unfolding answered or_else is-accept number-in
+  stopped-by n m u x below true e h = never (ap is-accept h)
+  stopped-by n m u x below false e h = rw (e, e, ap number-in h)
+
+  refused-by : (m n : ℕ) (u : U) (x : X) (b : Bool) → eqb m 0 ≡ b → ◌≡◌ {A = Verdict U} (refuse n) (cond b (accept u) (refuse m)) → ◌≡◌ {A = Verdict X} (refuse n) (answered m x)
+  unfolding answered is-accept number-in
+  refused-by m n u x true e h = never (ap is-accept h)
+  refused-by m n u x false e h = rw (e, ap number-in h)
+
+  -- the upper table's refusal is the whole table's
+  pub stopped : (xs ys : List Row) (n : ℕ) (u : U) (x : X) → numbered xs ≡ true → ◌≡◌ {A = Verdict U} (refuse n) (judge xs u) → ◌≡◌ {A = Verdict X} (refuse n) (judge (xs ++ ys) x)
+  unfolding judge answered
+  stopped xs ys n u x h e = rw (first-append xs ys h) (stopped-by n (first xs) u x (first ys) (eqb (first xs) 0) refl e)
+
+  -- where the upper table is passed the lower decides
+  pub passed : (xs ys : List Row) (u v : U) (x : X) → numbered xs ≡ true → ◌≡◌ {A = Verdict U} (accept v) (judge xs u) → judge (xs ++ ys) x ≡ judge ys x
+  unfolding judge or_else
+  passed xs ys u v x h e =
+      let z = (answered-accept (first xs) u v (sym e)).0 in
+      ap (λ (n : ℕ). answered n x) (first-append xs ys h ∙ ap (λ (n : ℕ). or_else n (first ys)) z)
+
+  -- ---- the same rows over another value: what a check by itself says of the answer
+
+  pub refused_too : (rs : List Row) (n : ℕ) (u : U) (x : X) → ◌≡◌ {A = Verdict U} (refuse n) (judge rs u) → ◌≡◌ {A = Verdict X} (refuse n) (judge rs x)
+  unfolding judge answered
+  refused_too rs n u x e = refused-by (first rs) n u x (eqb (first rs) 0) refl e
+
+  pub accepted_too : (rs : List Row) (u v : U) (x : X) → ◌≡◌ {A = Verdict U} (accept v) (judge rs u) → ◌≡◌ {A = Verdict X} (accept x) (judge rs x)
+  unfolding judge answered
+  accepted_too rs u v x e = rw ((answered-accept (first rs) u v (sym e)).0)
+
+module _ {U : Type 0} where
+  pub none_applied : (rs : List Row) (u v : U) → numbered rs ≡ true → ◌≡◌ {A = Verdict U} (accept v) (judge rs u) → None rs
+  none_applied rs u v h e = (judge-accept rs u v h (sym e)).0
+
+-- ---- a check that the code gives up at, by `?`: it hands the refusal on
+
+module _ {X : Type 0} where
+  pub handed_on : (s : Result X Refusal) (e : Refusal) → s ≡ Err e → verdict_of s ≡ refuse (number_of e)
+  handed_on s e p = ap (verdict_of {X = X}) p
+
+module _ {X : Type 0} where
+  pub row_passed : (n : ℕ) (t : Bool) (rest : List Row) (x : X) → t ≡ false → judge (row n t ∷ rest) x ≡ judge rest x
+  unfolding judge first
+  row_passed n t rest x h = rw h

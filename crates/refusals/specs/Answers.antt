@@ -2,26 +2,16 @@
 -- Assumes nothing.
 use Rattle.std.specs.Prelude.{Bool, true, false, ℕ, ℤ, pos}
 pub use Rattle.refusals.specs.declared.Bid.{Bid}
-pub use Rattle.refusals.specs.declared.BidAnswer.{BidAnswer}
-use Rattle.refusals.specs.declared.BidAnswer.TheVariants.{Stands, Refused as BidRefused}
 pub use Rattle.refusals.specs.declared.Answer.{Answer}
 pub use Rattle.refusals.specs.declared.Answer.TheVariants.{Accepted, Refused, Removed}
 use Rattle.refusals.specs.Refusals.{Verdict, refuse, accept}
 
 -- ---- a bid
 
-abbrev pub bid_answer : Verdict Bid → BidAnswer
-bid_answer (refuse n) = BidRefused n
-bid_answer (accept bid) = Stands bid
-
--- 01, What is promised: the paper's number and values for each case; 0 is no refusal, and a refusal answers 0 besides
-abbrev pub bid_refusal_of : BidAnswer → ℕ
-bid_refusal_of (Stands bid) = 0
-bid_refusal_of (BidRefused n) = n
-
-abbrev pub bid_of : BidAnswer → Bid
-bid_of (Stands bid) = bid
-bid_of (BidRefused n) = record { mwh = 0; cents = pos 0 }
+-- 01, What is promised: a refusal answers 0 throughout
+abbrev pub bid_of : Verdict Bid → Bid
+bid_of (accept bid) = bid
+bid_of (refuse n) = record { mwh = 0; cents = pos 0 }
 
 -- ---- a message
 

@@ -1,88 +1,68 @@
 // The table of refusals: the first row that applies is given. What an entry then answers.
 #![tactic(auto)]
 
-ghost use Rattle.std.specs.Prelude.{◌≡◌, cond};
-ghost use Rattle.refusals.specs.Refusals.{or_else};
-ghost use Rattle.refusals.specs.Answers.{bid_refusal_of, bid_of, reply};
-ghost use Rattle.refusals.specs.Figures.{refusal_of, cents_of};
+ghost use Rattle.std.specs.Prelude.{◌≡◌, true, false, MatchResult};
+ghost use Rattle.refusals.specs.Refusals.{number_of};
+ghost use Rattle.refusals.specs.Answers.{reply};
 
-// One row over the rows below it: its number where it applies, else what they give.
-pub fn pick(applies: bool, number: u64, rest: u64) -> u64
-    ensures { result ≡ cond applies number rest }
-{
-    if applies { number } else { rest }
+// Why a message is turned away, in the table's order; its number there is `number`'s.
+#[derive(Clone, Copy, Debug, PartialEq, Eq)]
+pub enum Refusal {
+    Unsound,
+    Kind,
+    Path,
+    Hour,
+    Points,
+    Quantity,
+    Price,
+    Differential,
+    Amount,
+    AlreadyOpen,
+    NotOpen,
+    WrongStage,
+    AboveBid,
+    Suspended,
+    Full,
+    AboveSupport,
 }
 
-// Two tables, one below the other; 0 is no refusal.
-pub fn or_else(above: u64, below: u64) -> u64
-    ensures { result ≡ or_else above below }
-{
-    pick(above == 0, below, above)
-}
-
-// An amount in cents, or the number of the refusal.
-#[derive(Clone, Copy)]
-pub enum Figure {
-    Cents(i64),
-    Refused(u64),
-}
-
-impl Figure {
-    // The number of the refusal; 0 is none.
-    pub fn refusal(self) -> u64
-        ensures { result ≡ refusal_of self }
+impl Refusal {
+    pub fn number(self) -> u64
+        ensures { result ≡ number_of self }
     {
         match self {
-            Figure::Cents(_) => 0,
-            Figure::Refused(number) => number,
+            Refusal::Unsound => 1,
+            Refusal::Kind => 2,
+            Refusal::Path => 3,
+            Refusal::Hour => 4,
+            Refusal::Points => 5,
+            Refusal::Quantity => 6,
+            Refusal::Price => 7,
+            Refusal::Differential => 8,
+            Refusal::Amount => 9,
+            Refusal::AlreadyOpen => 10,
+            Refusal::NotOpen => 11,
+            Refusal::WrongStage => 12,
+            Refusal::AboveBid => 13,
+            Refusal::Suspended => 14,
+            Refusal::Full => 15,
+            Refusal::AboveSupport => 16,
         }
     }
+}
 
-    // The amount; 0 where it is refused.
-    pub fn cents(self) -> i64
-        ensures { result ≡ cents_of self }
-    {
-        match self {
-            Figure::Cents(cents) => cents,
-            Figure::Refused(_) => 0,
-        }
-    }
+// One row of the table.
+pub fn refuse_if(applies: bool, refusal: Refusal) -> Result<(), Refusal>
+    ensures { MatchResult result (λ _. applies ≡ false) (λ e. (applies ≡ true) × (e ≡ refusal)) }
+{
+    if applies { Err(refusal) } else { Ok(()) }
 }
 
 // A bid group: its bid MWh, and its requirement in cents.
-#[derive(Clone, Copy)]
+#[derive(Clone, Copy, Debug, PartialEq, Eq)]
 pub struct Bid {
     pub mwh: u64,
     pub cents: i64,
-}
-
-// A bid, or the number of the refusal.
-#[derive(Clone, Copy)]
-pub enum BidAnswer {
-    Stands(Bid),
-    Refused(u64),
-}
-
-impl BidAnswer {
-    // The number of the refusal; 0 is none.
-    pub fn refusal(self) -> u64
-        ensures { result ≡ bid_refusal_of self }
-    {
-        match self {
-            BidAnswer::Stands(_) => 0,
-            BidAnswer::Refused(number) => number,
-        }
-    }
-
-    // The bid; a refusal's is 0 throughout.
-    pub fn bid(self) -> Bid
-        ensures { result ≡ bid_of self }
-    {
-        match self {
-            BidAnswer::Stands(bid) => bid,
-            BidAnswer::Refused(_) => Bid { mwh: 0, cents: 0 },
-        }
-    }
 }
 
 // What a message answers: held and net owed, and its requirement or the number of the refusal.

@@ -13,8 +13,6 @@ use Rattle.amounts.specs.Amount.{Range}
 use Rattle.amounts.specs.Limits.{is_differential}
 use Rattle.amounts.proofs.Signed.{signed, larger-of, mul_mono, tested}
 use Rattle.refusals.specs.Refusals.{first, None, judge}
-use Rattle.refusals.specs.Figures.{figure, refusal_of}
-use Rattle.refusals.specs.declared.Figure.TheVariants.{Cents, Refused}
 use Rattle.refusals.proofs.Laws.{numbered, and_left, and_right, none-applies, judge-none, answered-some}
 use Rattle.virtuals.specs.Virtuals.{Side, Supply, no_supply, is_no_supply, is_side_mwh, side_rows, mwh_rows, virtual_bid, virtual_posted, bid_verdict, posted_verdict, PostedOf, PostingAsksNoMore}
 
@@ -37,35 +35,9 @@ module _ (load supply : Side) where
         record { mwh = and_right (is_side_mwh load.mwh) (is_side_mwh supply.mwh) m; differential = and_right (is_differential load.differential) (is_differential supply.differential) d },
       )
 
-  pub bid-accepted : None (side_rows load supply) → figure (bid_verdict load supply) ≡ Cents (virtual_bid load supply)
-  unfolding bid_verdict
-  bid-accepted h = ap figure (judge-none (side_rows load supply) (virtual_bid load supply) h)
-
-  pub bid-refused : (first (side_rows load supply) ≡ 0 → ⊥) → figure (bid_verdict load supply) ≡ Refused (first (side_rows load supply))
-  unfolding bid_verdict judge
-  bid-refused h = ap figure (answered-some (first (side_rows load supply)) (virtual_bid load supply) h)
-
-  pub posted-accepted : None (side_rows load supply) → figure (posted_verdict load supply) ≡ Cents (virtual_posted load supply)
-  unfolding posted_verdict
-  posted-accepted h = ap figure (judge-none (side_rows load supply) (virtual_posted load supply) h)
-
-  pub posted-refused : (first (side_rows load supply) ≡ 0 → ⊥) → figure (posted_verdict load supply) ≡ Refused (first (side_rows load supply))
-  unfolding posted_verdict judge
-  posted-refused h = ap figure (answered-some (first (side_rows load supply)) (virtual_posted load supply) h)
-
 pub mwh-rows-numbered : (load supply : ℕ) → numbered (mwh_rows load supply) ≡ true
 unfolding numbered mwh_rows
 mwh-rows-numbered load supply = refl
-
--- the number that an entry answers is that of the rows
-module _ (load supply : Side) where
-  abbrev number : ℕ
-  number = first (side_rows load supply)
-
-  pub bid-number : refusal_of (figure (bid_verdict load supply)) ≡ first (side_rows load supply)
-  bid-number =
-      tested (eqb number 0) (λ e. ap refusal_of (bid-accepted load supply (none-applies (side_rows load supply) (side-rows-numbered load supply) (eqb-true number 0 e))) ∙ sym (eqb-true number 0 e))
-      (λ e. ap refusal_of (bid-refused load supply (eqb-false number 0 e)))
 
 -- ---- the supply side that a record keeps
 

@@ -3,12 +3,11 @@
 
 ghost use Rattle.std.specs.Prelude.{◌≡◌, true, ◌*◌, pos};
 ghost use Rattle.amounts.specs.Limits.{is_differential};
-ghost use Rattle.refusals.specs.Refusals.{first, None};
-ghost use Rattle.refusals.specs.Figures.{figure};
+ghost use Rattle.refusals.specs.Refusals.{None, judge, verdict_of};
 ghost use Rattle.virtuals.specs.Virtuals.{is_side_mwh, is_no_supply, supply_fits, side_rows, mwh_rows, virtual_bid, virtual_posted, bid_verdict, posted_verdict};
 
 use amounts::Differential;
-use refusals::{Figure, pick};
+use refusals::{Refusal, refuse_if};
 
 // One side of a virtual bid: MWh, bid or posted, and the differential that they are held at, in cents per MWh.
 #[derive(Clone, Copy)]
@@ -57,22 +56,24 @@ impl Supply {
     }
 }
 
-// Refusals 6 and 8, of either side; 0 is none.
-pub fn sides_refusal(load: Side, supply: Side) -> u64
-    ensures { result ≡ first (side_rows load supply) }
+// Refusals 6 and 8, of either side.
+#[tactic(auto, unfolding(crate::specs::Virtuals::side_rows, refusals::specs::Refusals::judge, refusals::specs::Refusals::answered, refusals::specs::Refusals::first))]
+pub fn check_sides(load: Side, supply: Side) -> Result<(), Refusal>
+    ensures { verdict_of result ≡ judge (side_rows load supply) tt }
 {
-    let differentials = load.differential_fits() & supply.differential_fits();
-    let below = pick(!differentials, 8, 0);
     let quantities = load.mwh_fits() & supply.mwh_fits();
-    pick(!quantities, 6, below)
+    refuse_if(!quantities, Refusal::Quantity)?;
+    let differentials = load.differential_fits() & supply.differential_fits();
+    refuse_if(!differentials, Refusal::Differential)
 }
 
 // Refusal 6 of a post's MWh, of either side.
-pub fn mwh_refusal(load: u64, supply: u64) -> u64
-    ensures { result ≡ first (mwh_rows load supply) }
+#[tactic(auto, unfolding(crate::specs::Virtuals::mwh_rows, refusals::specs::Refusals::judge, refusals::specs::Refusals::answered, refusals::specs::Refusals::first))]
+pub fn check_posted_mwh(load: u64, supply: u64) -> Result<(), Refusal>
+    ensures { verdict_of result ≡ judge (mwh_rows load supply) tt }
 {
     let fits = (load <= Side::MAX_MWH) & (supply <= Side::MAX_MWH);
-    pick(!fits, 6, 0)
+    refuse_if(!fits, Refusal::Quantity)
 }
 
 fn cents(mwh: u64, differential: u64) -> i64
@@ -107,25 +108,17 @@ fn net_cents(load: Side, supply: Side) -> i64
 }
 
 // Stage 1: the requirement of both sides while bid.
-pub fn bid(load: Side, supply: Side) -> Figure
-    ensures { result ≡ figure (bid_verdict load supply) }
+pub fn bid(load: Side, supply: Side) -> Result<i64, Refusal>
+    ensures { verdict_of result ≡ bid_verdict load supply }
 {
-    let number = sides_refusal(load, supply);
-    if number == 0 {
-        Figure::Cents(bid_cents(load, supply))
-    } else {
-        Figure::Refused(number)
-    }
+    check_sides(load, supply)?;
+    Ok(bid_cents(load, supply))
 }
 
 // Stage 2: the requirement of what was posted of both sides, at the differentials that they were bid with.
-pub fn posted(load: Side, supply: Side) -> Figure
-    ensures { result ≡ figure (posted_verdict load supply) }
+pub fn posted(load: Side, supply: Side) -> Result<i64, Refusal>
+    ensures { verdict_of result ≡ posted_verdict load supply }
 {
-    let number = sides_refusal(load, supply);
-    if number == 0 {
-        Figure::Cents(net_cents(load, supply))
-    } else {
-        Figure::Refused(number)
-    }
+    check_sides(load, supply)?;
+    Ok(net_cents(load, supply))
 }

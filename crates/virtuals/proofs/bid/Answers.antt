@@ -1,27 +1,23 @@
--- `virtuals::bid`: each arm is the verdict by the number that the rows give.
-use mathlib.Core.Path.{◌≡◌, sym, ap, ◌∙◌}
-use Prim.Native.Nat.{ℕ}
+-- `virtuals::bid`: the sides' rows, and the amount that they leave.
+use mathlib.Core.Path.{◌∙◌, sym, ap}
+use Rattle.std.proofs.Common.{rules}
 use Rattle.amounts.proofs.Steps.{back}
-use Rattle.refusals.specs.Refusals.{first, None}
-use Rattle.refusals.specs.declared.Figure.TheVariants.{Cents, Refused}
-use Rattle.refusals.proofs.Laws.{none-applies}
-use Rattle.virtuals.specs.Virtuals.{Side, side_rows}
-use Rattle.virtuals.proofs.Laws.{side-rows-numbered, bid-accepted, bid-refused}
+use Rattle.refusals.specs.Refusals.{accept}
+use Rattle.refusals.proofs.Laws.{handed_on, refused_too, accepted_too, none_applied}
+use Rattle.virtuals.specs.Virtuals.{side_rows, bid_verdict}
+use Rattle.virtuals.proofs.Laws.{side-rows-numbered}
 use Rattle.virtuals.proofs.bid.Goals as goal
 
-none : (load supply : Side) {number : ℕ} → number ≡ first (side_rows load supply) → number ≡ 0 → None (side_rows load supply)
-none load supply e zero = none-applies (side_rows load supply) (side-rows-numbered load supply) (sym e ∙ zero)
+pub returns-in_err-check_sides : goal.returns-in_err-check_sides
+unfolding bid_verdict
+returns-in_err-check_sides c =
+    handed_on _ c.in_err-check_sides.field-0.0 (search rules) ∙ refused_too (side_rows c.args.load c.args.supply) _ (tt {0}) _ c.in_err-check_sides.ensures
 
 pub bid_cents-requires : goal.bid_cents-requires
-bid_cents-requires c = none c.args.load c.args.supply c.sides_refusal-number.ensures c.if-number-eq0.true
+bid_cents-requires c = none_applied (side_rows c.args.load c.args.supply) (tt {0}) _ (side-rows-numbered c.args.load c.args.supply) c.in_ok-check_sides.ensures
 
-pub returns-then-number-eq0 : goal.returns-then-number-eq0
-returns-then-number-eq0 c =
-    let a = c.args in
-    ap Cents (back c.bid_cents.result c.bid_cents.type_inv ∙ c.bid_cents.ensures) ∙ sym (bid-accepted a.load a.supply (none c.args.load c.args.supply c.sides_refusal-number.ensures c.if-number-eq0.true))
-
-pub returns-else-number-eq0 : goal.returns-else-number-eq0
-returns-else-number-eq0 c =
-    let a = c.args in
-    let n = c.sides_refusal-number.ensures in
-    ap Refused n ∙ sym (bid-refused a.load a.supply (λ e. c.if-number-eq0.false (n ∙ e)))
+pub returns : goal.returns
+unfolding bid_verdict
+returns c =
+    let rows = side_rows c.args.load c.args.supply in
+    ap accept (back c.bid_cents.result c.bid_cents.type_inv ∙ c.bid_cents.ensures) ∙ accepted_too rows (tt {0}) _ _ c.in_ok-check_sides.ensures
