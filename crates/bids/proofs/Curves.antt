@@ -15,8 +15,8 @@ use Rattle.amounts.specs.Amount.{up, Range}
 use Rattle.amounts.specs.Limits.{between, is_point_mwh, is_price}
 use Rattle.amounts.specs.Lists.{every}
 use Rattle.amounts.proofs.Signed.{up_neg, mul_mono, larger-of, times-of, range-true, range-wider}
-use Rattle.refusals.specs.Refusals.{row, first, judge, None}
-use Rattle.refusals.proofs.Laws.{numbered, and_left, and_right, never, none-applies, none-split, numbered-append, answered-none, answered-some}
+use Rattle.refusals.specs.Refusals.{row, Verdict, accept, judge, None}
+use Rattle.refusals.proofs.Laws.{numbered, and_left, and_right, never, none-split, numbered-append, none_applied}
 use Rattle.kinds.specs.declared.Rules.{Rules}
 use Rattle.kinds.specs.Kinds.{quarter_hour, virtual, is_kind, has_one_curve, kind_row, unless_exempt, rules_of, import_rules, export_rules, hour_ahead_rules, wheel_rules, differential_fits, bid_mwh_fits, pending_fits}
 use Rattle.kinds.proofs.ByKind.{by-kind, by-rules, rules-1, rules-2, rules-3, rules-4, rules-5, rules-6}
@@ -24,9 +24,7 @@ use Rattle.kinds.proofs.Fits.{pending-range, exempt-range, differential-small}
 use Rattle.bids.specs.Points.{Point, curve, largest_mwh, total_mwh, share, mwh_at, Exposure, tried, exposure, wheel_exposure}
 use Rattle.bids.specs.Bids.{import_bid, export_bid, hour_ahead_bid, bid_mwh, bid_requirement}
 use Rattle.bids.specs.Rows.{point_rows, bid_rows}
-use Rattle.refusals.specs.Answers.{bid_answer}
 use Rattle.bids.specs.Entries.{bid_verdict}
-use Rattle.refusals.specs.declared.BidAnswer.TheVariants.{Stands, Refused}
 use Rattle.bids.proofs.Walks.{point_at}
 use Rattle.bids.proofs.Largest.{exposure-only}
 
@@ -107,22 +105,10 @@ no-quarter kind ms ps d h e = never (sym (one-curve kind ms ps d h).0 ∙ ap (λ
 no_sides : (kind : ℕ) (ms : List ℕ) (ps : List ℤ) (d : ℕ) → None (bid_rows kind ms ps d) → kind ≡ virtual → ⊥
 no_sides kind ms ps d h e = never (sym (one-curve kind ms ps d h).1 ∙ ap (λ (r : Rules). r.sides) (rules-6 kind e))
 
--- a bid that the table gives no number
-pub bid-stands : (kind : ℕ) (ms : List ℕ) (ps : List ℤ) (d n : ℕ) → n ≡ first (kind_row kind ∷ bid_rows kind ms ps d) → n ≡ 0 → None (point_rows ms ps) × (differential_fits (rules_of kind) d ≡ true)
+-- what the bid's table leaves
+pub bid-passed : (kind : ℕ) (ms : List ℕ) (ps : List ℤ) (d : ℕ) → ◌≡◌ {A = Verdict (Unit {0})} (accept (tt {0})) (judge (kind_row kind ∷ bid_rows kind ms ps d) (tt {0})) → None (point_rows ms ps) × (differential_fits (rules_of kind) d ≡ true)
 unfolding None numbered
-bid-stands kind ms ps d n e z = fit-bid kind ms ps d (none-applies (kind_row kind ∷ bid_rows kind ms ps d) (bid-rows-numbered kind ms ps d) (sym e ∙ z)).1
-
--- what is answered, by the table's number n
-module _ (kind : ℕ) (ms : List ℕ) (ps : List ℤ) (d : ℕ) (exempt : Bool) (n : ℕ) (e : n ≡ first (kind_row kind ∷ bid_rows kind ms ps d)) where
-  pub refused-bid : (n ≡ 0 → ⊥) → Refused n ≡ bid_answer (bid_verdict kind ms ps d exempt)
-  unfolding bid_verdict judge
-  refused-bid h =
-      rw (← e) (sym (ap bid_answer (answered-some n (record { mwh = bid_mwh kind (curve ms ps); cents = bid_requirement kind (curve ms ps) d exempt }) h)))
-
-  pub standing-bid : n ≡ 0 → {m : ℕ} {y z : ℤ} → m ≡ bid_mwh kind (curve ms ps) → y ≡ z → z ≡ bid_requirement kind (curve ms ps) d exempt → Stands (record { mwh = m; cents = y }) ≡ bid_answer (bid_verdict kind ms ps d exempt)
-  unfolding bid_verdict judge
-  standing-bid none p q r =
-      rw (← e, none, p, q, r) (sym (ap bid_answer (answered-none (record { mwh = bid_mwh kind (curve ms ps); cents = bid_requirement kind (curve ms ps) d exempt }))))
+bid-passed kind ms ps d e = fit-bid kind ms ps d (none_applied (kind_row kind ∷ bid_rows kind ms ps d) (tt {0}) (tt {0}) (bid-rows-numbered kind ms ps d) e).1
 
 -- ---- amounts
 

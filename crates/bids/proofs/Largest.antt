@@ -13,10 +13,10 @@ use lib.Dec.{ltb}
 use borrow.Author.Tests.{le-leb, lt-leb, leb-true, ltb-true, ltb-false}
 use Rattle.amounts.specs.Amount.{up}
 use Rattle.amounts.specs.Lists.{every}
-use Rattle.refusals.specs.Refusals.{Row, None, First}
-use Rattle.refusals.specs.declared.Figure.{Figure}
-use Rattle.refusals.specs.declared.Figure.TheVariants.{Cents, Refused}
-use Rattle.refusals.proofs.Laws.{never, and_left, and_right, first-is}
+use Rattle.refusals.specs.declared.Refusal.{Refusal}
+use Rattle.refusals.specs.Refusals.{number_of, Row, None, First}
+use Rattle.std.specs.Prelude.{Result, Ok, Err}
+use Rattle.refusals.proofs.Laws.{number-one, never, and_left, and_right, first-is}
 use Rattle.bids.specs.Points.{Point, mwh_at, Exposure, tried, exposure}
 use Rattle.bids.specs.Rows.{point_rows}
 use Rattle.bids.specs.Entries.{Exposed}
@@ -133,9 +133,9 @@ not-both n [] f h = f
 not-both n (r ∷ rs) f h = ⊎_elim (λ a. never (sym h.0 ∙ a.0)) (λ a. not-both n rs a.1 h.1) f
 
 -- any two answers that `price_exposure`'s statement allows are one
-pub exposed-one : (ms : List ℕ) (ps : List ℤ) {r r' : Figure} → Exposed ms ps r → Exposed ms ps r' → r ≡ r'
+pub exposed-one : (ms : List ℕ) (ps : List ℤ) {r r' : Result ℤ Refusal} → Exposed ms ps r → Exposed ms ps r' → r ≡ r'
 unfolding Exposed
-exposed-one ms ps {r = Refused n} {r' = Refused n'} x y = ap Refused (sym (first-is n (point_rows ms ps) x) ∙ first-is n' (point_rows ms ps) y)
-exposed-one ms ps {r = Refused n} {r' = Cents z} x y = absurd (not-both n (point_rows ms ps) x y.0)
-exposed-one ms ps {r = Cents z} {r' = Refused n} x y = absurd (not-both n (point_rows ms ps) y x.0)
-exposed-one ms ps {r = Cents z} {r' = Cents z'} x y = ap Cents (x.1.1 ∙ ap pos (exposure-one x.1.2 y.1.2) ∙ sym y.1.1)
+exposed-one ms ps {r = Err e} {r' = Err e'} x y = ap Err (number-one e e' (sym (first-is (number_of e) (point_rows ms ps) x) ∙ first-is (number_of e') (point_rows ms ps) y))
+exposed-one ms ps {r = Err e} {r' = Ok z} x y = absurd (not-both (number_of e) (point_rows ms ps) x y.0)
+exposed-one ms ps {r = Ok z} {r' = Err e} x y = absurd (not-both (number_of e) (point_rows ms ps) y x.0)
+exposed-one ms ps {r = Ok z} {r' = Ok z'} x y = ap Ok (x.1.1 ∙ ap pos (exposure-one x.1.2 y.1.2) ∙ sym y.1.1)

@@ -1,9 +1,8 @@
 -- What the entries of stage 1 answer, for all inputs: the first row that applies, else the bid of document 01's formulas.
 -- Assumes nothing.
-use Rattle.std.specs.Prelude.{◌≡◌, Bool, List, ◌∷◌, ℕ, ℤ, pos}
-use Rattle.refusals.specs.declared.Figure.{Figure}
-use Rattle.refusals.specs.declared.Figure.TheVariants.{Cents, Refused}
-use Rattle.refusals.specs.Refusals.{Verdict, judge, None, First}
+use Rattle.std.specs.Prelude.{◌≡◌, Bool, List, ◌∷◌, ℕ, ℤ, pos, Result, Ok, Err}
+use Rattle.refusals.specs.declared.Refusal.{Refusal}
+use Rattle.refusals.specs.Refusals.{number_of, Verdict, judge, None, First}
 use Rattle.kinds.specs.Kinds.{kind_row}
 use Rattle.refusals.specs.declared.Bid.{Bid}
 use Rattle.bids.specs.Points.{curve, Exposure}
@@ -17,6 +16,6 @@ bid_verdict kind mwhs prices differential exempt =
     (record { mwh = bid_mwh kind (curve mwhs prices); cents = bid_requirement kind (curve mwhs prices) differential exempt })
 
 -- the price exposure of a curve, as 01's sentence has it: r is a refusal by the first row that applies, or the one number that is the exposure
-unfoldable pub Exposed : List ℕ → List ℤ → Figure → Type 0
-Exposed mwhs prices (Refused n) = First n (point_rows mwhs prices)
-Exposed mwhs prices (Cents cents) = None (point_rows mwhs prices) × ((e : ℕ) × (cents ≡ pos e) × Exposure (curve mwhs prices) e)
+unfoldable pub Exposed : List ℕ → List ℤ → Result ℤ Refusal → Type 0
+Exposed mwhs prices (Err e) = First (number_of e) (point_rows mwhs prices)
+Exposed mwhs prices (Ok cents) = None (point_rows mwhs prices) × ((e : ℕ) × (cents ≡ pos e) × Exposure (curve mwhs prices) e)

@@ -1,27 +1,30 @@
 // Stage 1: the bid MWh and the requirement of a group, from its points.
 ghost use Rattle.std.specs.Prelude.{◌≡◌, ◌∷◌, true};
 ghost use Rattle.amounts.specs.Limits.{is_differential};
-ghost use Rattle.refusals.specs.Refusals.{first, None};
+ghost use Rattle.refusals.specs.Refusals.{None, judge, verdict_of};
 ghost use Rattle.kinds.specs.Kinds.{kind_row};
 ghost use Rattle.bids.specs.Points.{curve};
 ghost use Rattle.bids.specs.Rows.{point_rows, bid_rows};
 ghost use Rattle.bids.specs.Bids.{import_bid, export_bid, hour_ahead_bid, bid_mwh, bid_requirement};
-ghost use Rattle.refusals.specs.Answers.{bid_answer};
 ghost use Rattle.bids.specs.Entries.{bid_verdict, Exposed};
 
-use crate::points::{exposure, largest_mwh, points_refusal, total_mwh, wheel_exposure};
+use crate::points::{check_points, exposure, largest_mwh, total_mwh, wheel_exposure};
 use kinds::{Kind, unless_exempt};
-use refusals::{Bid, BidAnswer, Figure, or_else, pick};
+use refusals::{Bid, Refusal, refuse_if};
 
-// Refusals 2 and 5 to 8, in the table's order; 0 is none.
-fn bid_refusal(kind: u64, mwh: &[u64], prices: &[i64], differential: u64) -> u64
-    ensures { result ≡ first (kind_row kind ∷ bid_rows kind mwh.now prices.now differential) }
+// Refusals 2 and 5 to 8, in the table's order.
+#[tactic(auto, unfolding(crate::specs::Rows::bid_rows, refusals::specs::Refusals::judge, refusals::specs::Refusals::answered, refusals::specs::Refusals::first))]
+fn check_bid(kind: u64, mwh: &[u64], prices: &[i64], differential: u64) -> Result<(), Refusal>
+    ensures { verdict_of result ≡ judge (kind_row kind ∷ bid_rows kind mwh.now prices.now differential) tt }
 {
     let rules = Kind { number: kind }.rules();
-    let last = pick(!rules.differential_fits(differential), 8, 0);
-    let below = or_else(points_refusal(mwh, prices), last);
-    let curves = pick(!rules.has_one_curve(), 5, below);
-    pick(!Kind { number: kind }.in_range(), 2, curves)
+    refuse_if(!Kind { number: kind }.in_range(), Refusal::Kind)?;
+    refuse_if(!rules.has_one_curve(), Refusal::Points)?;
+    check_points(mwh, prices)?;
+    refuse_if(
+        !rules.differential_fits(differential),
+        Refusal::Differential,
+    )
 }
 
 fn import_bid(mwh: &[u64], prices: &[i64], differential: u64) -> i64
@@ -76,26 +79,26 @@ fn bid_requirement(kind: u64, mwh: &[u64], prices: &[i64], differential: u64, ex
 }
 
 // The bid of a group, or the first refusal that applies.
-pub fn bid(kind: u64, mwh: &[u64], prices: &[i64], differential: u64, exempt: bool) -> BidAnswer
-    ensures { result ≡ bid_answer (bid_verdict kind mwh.now prices.now differential exempt) }
+pub fn bid(
+    kind: u64,
+    mwh: &[u64],
+    prices: &[i64],
+    differential: u64,
+    exempt: bool,
+) -> Result<Bid, Refusal>
+    ensures { verdict_of result ≡ bid_verdict kind mwh.now prices.now differential exempt }
 {
-    let refusal = bid_refusal(kind, mwh, prices, differential);
-    if refusal != 0 {
-        return BidAnswer::Refused(refusal);
-    }
-    BidAnswer::Stands(Bid {
+    check_bid(kind, mwh, prices, differential)?;
+    Ok(Bid {
         mwh: bid_mwh(kind, mwh, prices),
         cents: bid_requirement(kind, mwh, prices, differential, exempt),
     })
 }
 
 // The price exposure of a curve, or the first refusal that applies.
-pub fn price_exposure(mwh: &[u64], prices: &[i64]) -> Figure
+pub fn price_exposure(mwh: &[u64], prices: &[i64]) -> Result<i64, Refusal>
     ensures { Exposed mwh.now prices.now result }
 {
-    let refusal = points_refusal(mwh, prices);
-    if refusal != 0 {
-        return Figure::Refused(refusal);
-    }
-    Figure::Cents(exposure(mwh, prices) as i64)
+    check_points(mwh, prices)?;
+    Ok(exposure(mwh, prices) as i64)
 }

@@ -1,11 +1,11 @@
 // What the formulas take from the points of a curve. The points are two lent lists; each loop walks them from the end, as the definitions recurse.
 ghost use Rattle.std.specs.Prelude.{◌≡◌, ◌<◌, max, pos, length, get_or};
-ghost use Rattle.refusals.specs.Refusals.{first, None};
+ghost use Rattle.refusals.specs.Refusals.{None, judge, verdict_of};
 ghost use Rattle.bids.specs.Points.{curve, largest_mwh, total_mwh, mwh_at, Exposure, wheel_exposure};
 ghost use Rattle.bids.specs.Rows.{point_rows};
 
 use crate::types::Point;
-use refusals::pick;
+use refusals::{Refusal, refuse_if};
 
 // The larger of two numbers of MWh or of cents.
 fn larger(a: u64, b: u64) -> u64
@@ -25,21 +25,16 @@ fn point(mwh: &[u64], prices: &[i64], i: usize) -> Point
     }
 }
 
-// Refusals 5 to 7, in the table's order; 0 is none.
-pub(crate) fn points_refusal(mwh: &[u64], prices: &[i64]) -> u64
-    ensures { result ≡ first (point_rows mwh.now prices.now) }
+// Refusals 5 to 7, in the table's order.
+#[tactic(auto, unfolding(crate::specs::Rows::point_rows, refusals::specs::Refusals::judge, refusals::specs::Refusals::answered, refusals::specs::Refusals::first))]
+pub(crate) fn check_points(mwh: &[u64], prices: &[i64]) -> Result<(), Refusal>
+    ensures { verdict_of result ≡ judge (point_rows mwh.now prices.now) tt }
 {
     let count = mwh.len();
     let counted = (1 <= count) & (count <= Point::MAX_COUNT) & (count == prices.len());
-    pick(
-        !counted,
-        5,
-        pick(
-            !amounts::points_in_range(mwh),
-            6,
-            pick(!amounts::prices_in_range(prices), 7, 0),
-        ),
-    )
+    refuse_if(!counted, Refusal::Points)?;
+    refuse_if(!amounts::points_in_range(mwh), Refusal::Quantity)?;
+    refuse_if(!amounts::prices_in_range(prices), Refusal::Price)
 }
 
 // Bid MWh of kinds 1 and 4.

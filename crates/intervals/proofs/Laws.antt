@@ -10,10 +10,10 @@ use lib.ListN.{length}
 use borrow.Author.Tests.{not-false, leb-true, le-leb, eqb-true}
 use Rattle.amounts.specs.Limits.{is_point_mwh, is_price}
 use Rattle.amounts.specs.Lists.{every}
-use Rattle.refusals.specs.Refusals.{Verdict, refuse, accept, first, answered, judge, None}
-use Rattle.refusals.proofs.Laws.{numbered, and_left, and_right, none-applies, answered-none, answered-some, judge-none}
+use Rattle.refusals.specs.Refusals.{Verdict, accept, judge, None}
+use Rattle.refusals.proofs.Laws.{numbered, and_left, and_right, none_applied, judge-none}
 use Rattle.kinds.specs.Kinds.{rules_of, kind_row}
-use Rattle.intervals.specs.Intervals.{Counts, Intervals, Stands, Refused, after_first, after_second, after_third, points, intervals_of, counts_fit, curves_rows, curves_verdict, curves_answer, no_intervals, curves_refusal_of, intervals_in, intervals_fit, is_none}
+use Rattle.intervals.specs.Intervals.{Counts, Intervals, after_first, after_second, after_third, points, intervals_of, counts_fit, curves_rows, curves_verdict, no_intervals, intervals_in, intervals_fit, is_none}
 use Rattle.intervals.proofs.Sums.{interval-small}
 
 -- ---- four tests at once
@@ -45,15 +45,6 @@ module _ (limit a b c d : ℕ) where
 
   within-fits : Within limit a b c d → (leb a limit && leb b limit && leb c limit && leb d limit) ≡ true
   within-fits w = rw (le-leb a limit w.first, le-leb b limit w.second, le-leb c limit w.third, le-leb d limit w.fourth)
-
--- ---- the answer that goes with a number
-answered-by : (n : ℕ) (s : Intervals) (b : Bool) → eqb n 0 ≡ b → curves_refusal_of (curves_answer (cond b (accept s) (refuse n))) ≡ n
-answered-by n s true e = sym (eqb-true n 0 e)
-answered-by n s false e = refl
-
-answered-refusal : (n : ℕ) (s : Intervals) → curves_refusal_of (curves_answer (answered n s)) ≡ n
-unfolding answered
-answered-refusal n s = answered-by n s (eqb n 0) refl
 
 -- ---- the four sums of a record
 pub none-fits : intervals_fit no_intervals ≡ true
@@ -148,26 +139,12 @@ module _ (kind : ℕ) (c : Counts) (mwhs : List ℕ) (prices : List ℤ) where
 
   -- ---- what is answered
 
-  -- the number that the table gives
-  pub curves-refusal-is : curves_refusal_of (curves_answer (curves_verdict kind c mwhs prices)) ≡ first (kind_row kind ∷ curves_rows kind c mwhs prices)
-  unfolding curves_verdict judge
-  curves-refusal-is = answered-refusal (first (kind_row kind ∷ curves_rows kind c mwhs prices)) (intervals_of c mwhs)
-
-  -- and the four sums, where that is none
-  pub intervals-in : None (kind_row kind ∷ curves_rows kind c mwhs prices) → intervals_in (curves_answer (curves_verdict kind c mwhs prices)) ≡ intervals_of c mwhs
+  -- the four sums, where no row applies
+  pub intervals-in : None (kind_row kind ∷ curves_rows kind c mwhs prices) → intervals_in (curves_verdict kind c mwhs prices) ≡ intervals_of c mwhs
   unfolding curves_verdict
-  intervals-in h = ap (λ (v : Verdict Intervals). intervals_in (curves_answer v)) (judge-none (kind_row kind ∷ curves_rows kind c mwhs prices) (intervals_of c mwhs) h)
+  intervals-in h = ap intervals_in (judge-none (kind_row kind ∷ curves_rows kind c mwhs prices) (intervals_of c mwhs) h)
 
-  -- by the table's number n
-  module _ (n : ℕ) (e : n ≡ first (kind_row kind ∷ curves_rows kind c mwhs prices)) where
-    pub curves-stand : n ≡ 0 → Fit kind c mwhs prices
-    unfolding None
-    curves-stand z = fit (none-applies (kind_row kind ∷ curves_rows kind c mwhs prices) curves-table-numbered (sym e ∙ z)).1
-
-    pub refused-curves : (n ≡ 0 → ⊥) → Refused n ≡ curves_answer (curves_verdict kind c mwhs prices)
-    unfolding curves_verdict judge
-    refused-curves h = rw (← e) (sym (ap curves_answer (answered-some n (intervals_of c mwhs) h)))
-
-    pub standing-curves : n ≡ 0 → {s : Intervals} → s ≡ intervals_of c mwhs → Stands s ≡ curves_answer (curves_verdict kind c mwhs prices)
-    unfolding curves_verdict judge
-    standing-curves none q = rw (← e, none, q) (sym (ap curves_answer (answered-none (intervals_of c mwhs))))
+  -- what the table leaves
+  pub curves-passed : ◌≡◌ {A = Verdict (Unit {0})} (accept (tt {0})) (judge (kind_row kind ∷ curves_rows kind c mwhs prices) (tt {0})) → Fit kind c mwhs prices
+  unfolding None
+  curves-passed e = fit (none_applied (kind_row kind ∷ curves_rows kind c mwhs prices) (tt {0}) (tt {0}) curves-table-numbered e).1

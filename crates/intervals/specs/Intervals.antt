@@ -7,8 +7,6 @@ use Rattle.refusals.specs.Refusals.{Row, row, Verdict, refuse, accept, judge}
 use Rattle.kinds.specs.Kinds.{rules_of, kind_row}
 pub use Rattle.intervals.specs.declared.types.Counts.{Counts}
 pub use Rattle.intervals.specs.declared.types.Intervals.{Intervals}
-pub use Rattle.intervals.specs.declared.types.CurvesAnswer.{CurvesAnswer}
-pub use Rattle.intervals.specs.declared.types.CurvesAnswer.TheVariants.{Stands, Refused}
 
 -- ---- four curves: the points stand one interval after another in the two lent lists
 
@@ -59,21 +57,13 @@ curves_verdict kind c mwhs prices = judge (kind_row kind ∷ curves_rows kind c 
 
 -- ---- the answer
 
-abbrev pub curves_answer : Verdict Intervals → CurvesAnswer
-curves_answer (refuse n) = Refused n
-curves_answer (accept sums) = Stands sums
-
 abbrev pub no_intervals : Intervals
 no_intervals = record { first = 0; second = 0; third = 0; fourth = 0 }
 
--- the paper's number and values for each case; 0 is no refusal, and a refusal answers 0 besides
-abbrev pub curves_refusal_of : CurvesAnswer → ℕ
-curves_refusal_of (Stands sums) = 0
-curves_refusal_of (Refused n) = n
-
-abbrev pub intervals_in : CurvesAnswer → Intervals
-intervals_in (Stands sums) = sums
-intervals_in (Refused n) = no_intervals
+-- a refusal answers 0 throughout
+abbrev pub intervals_in : Verdict Intervals → Intervals
+intervals_in (accept sums) = sums
+intervals_in (refuse n) = no_intervals
 
 -- ---- the four sums of a record
 

@@ -2,13 +2,13 @@
 ghost use Rattle.std.specs.Prelude.{◌≡◌, ◌∷◌, ◌+◌, ◌≤◌, length, true, ◌&&◌, eqb};
 ghost use Rattle.amounts.specs.Limits.{is_point_mwh};
 ghost use Rattle.amounts.specs.Lists.{every};
-ghost use Rattle.refusals.specs.Refusals.{first, None};
+ghost use Rattle.refusals.specs.Refusals.{judge, verdict_of};
 ghost use Rattle.kinds.specs.Kinds.{rules_of, kind_row};
-ghost use Rattle.intervals.specs.Intervals.{counts_fit, points as points_of, interval_mwh, intervals_of, curves_rows, curves_verdict, curves_answer};
+ghost use Rattle.intervals.specs.Intervals.{counts_fit, points as points_of, interval_mwh, intervals_of, curves_rows, curves_verdict};
 
-use crate::types::{Counts, CurvesAnswer, Intervals};
+use crate::types::{Counts, Intervals};
 use kinds::Kind;
-use refusals::pick;
+use refusals::{Refusal, refuse_if};
 
 impl Counts {
     // No interval is too long, and not all are empty.
@@ -47,20 +47,20 @@ fn counted(kind: u64, counts: Counts, mwh: &[u64], prices: &[i64]) -> bool
     (mwh.len() as u64 == points) & (prices.len() as u64 == points)
 }
 
-// Refusals 2 and 5 to 7, in the table's order; 0 is none.
-fn curves_refusal(kind: u64, counts: Counts, mwh: &[u64], prices: &[i64]) -> u64
-    ensures { result ≡ first (kind_row kind ∷ curves_rows kind counts mwh.now prices.now) }
+// Refusals 2 and 5 to 7, in the table's order.
+#[tactic(auto, unfolding(crate::specs::Intervals::curves_rows, refusals::specs::Refusals::judge, refusals::specs::Refusals::answered, refusals::specs::Refusals::first))]
+fn check_curves(
+    kind: u64,
+    counts: Counts,
+    mwh: &[u64],
+    prices: &[i64],
+) -> Result<(), Refusal>
+    ensures { verdict_of result ≡ judge (kind_row kind ∷ curves_rows kind counts mwh.now prices.now) tt }
 {
-    let below = pick(
-        !counted(kind, counts, mwh, prices),
-        5,
-        pick(
-            !amounts::points_in_range(mwh),
-            6,
-            pick(!amounts::prices_in_range(prices), 7, 0),
-        ),
-    );
-    pick(!Kind { number: kind }.in_range(), 2, below)
+    refuse_if(!Kind { number: kind }.in_range(), Refusal::Kind)?;
+    refuse_if(!counted(kind, counts, mwh, prices), Refusal::Points)?;
+    refuse_if(!amounts::points_in_range(mwh), Refusal::Quantity)?;
+    refuse_if(!amounts::prices_in_range(prices), Refusal::Price)
 }
 
 // The MWh of `count` points, after the first `from`.
@@ -97,12 +97,14 @@ fn sums(counts: Counts, mwh: &[u64]) -> Intervals
 }
 
 // The four sums, or the first refusal that applies.
-pub fn curves(kind: u64, counts: Counts, mwh: &[u64], prices: &[i64]) -> CurvesAnswer
-    ensures { result ≡ curves_answer (curves_verdict kind counts mwh.now prices.now) }
+pub fn curves(
+    kind: u64,
+    counts: Counts,
+    mwh: &[u64],
+    prices: &[i64],
+) -> Result<Intervals, Refusal>
+    ensures { verdict_of result ≡ curves_verdict kind counts mwh.now prices.now }
 {
-    let refusal = curves_refusal(kind, counts, mwh, prices);
-    if refusal != 0 {
-        return CurvesAnswer::Refused(refusal);
-    }
-    CurvesAnswer::Stands(sums(counts, mwh))
+    check_curves(kind, counts, mwh, prices)?;
+    Ok(sums(counts, mwh))
 }

@@ -1,6 +1,6 @@
 // A fifteen-minute scheduling bid (02, order 3): the points of its four curves, and their sums.
 ghost use Rattle.std.specs.Prelude.{◌≡◌};
-ghost use Rattle.intervals.specs.Intervals.{no_intervals, curves_refusal_of, intervals_in, intervals_fit, is_none};
+ghost use Rattle.intervals.specs.Intervals.{no_intervals, intervals_fit, is_none};
 
 use amounts::Quantity;
 
@@ -52,34 +52,5 @@ impl Intervals {
         ensures { result ≡ is_none self }
     {
         (self.first == 0) & (self.second == 0) & (self.third == 0) & (self.fourth == 0)
-    }
-}
-
-// The four sums, or the number of the refusal.
-#[derive(Clone, Copy)]
-pub enum CurvesAnswer {
-    Stands(Intervals),
-    Refused(u64),
-}
-
-impl CurvesAnswer {
-    // The number of the refusal; 0 is none.
-    pub fn refusal(self) -> u64
-        ensures { result ≡ curves_refusal_of self }
-    {
-        match self {
-            CurvesAnswer::Stands(_) => 0,
-            CurvesAnswer::Refused(number) => number,
-        }
-    }
-
-    // The sums; a refusal's are 0.
-    pub fn intervals(self) -> Intervals
-        ensures { result ≡ intervals_in self }
-    {
-        match self {
-            CurvesAnswer::Stands(sums) => sums,
-            CurvesAnswer::Refused(_) => Intervals::none(),
-        }
     }
 }

@@ -5,10 +5,10 @@ use mathlib.Core.Bool.{Bool, true, false, cond, not, ◌&&◌}
 use mathlib.Core.List.{List, [], ◌∷◌, ◌++◌}
 use mathlib.Core.Logic.{inl, inr, ⊎_elim}
 use Prim.Native.Nat.{ℕ}
-use Rattle.std.specs.Prelude.{Result, Err}
+use Rattle.std.specs.Prelude.{Result, Ok, Err, MatchResult}
 use native.Mathlib.Omega.{arith}
 use lib.Dec.{T, eqb}
-use borrow.Author.Tests.{eqb-true, eq-eqb, ne_eqb}
+use borrow.Author.Tests.{not-true, eqb-true, eq-eqb, ne_eqb}
 use Rattle.refusals.specs.Refusals.{Refusal, Unsound, Kind, Path, Hour, Points, Quantity, Price, Differential, Amount, AlreadyOpen, NotOpen, WrongStage, AboveBid, Suspended, Full, AboveSupport, number_of, Row, row, first, Verdict, verdict_of, refuse, accept, answered, judge, or_else, None, First}
 
 -- no row has the number 0; a test that is computed, whatever the rows say
@@ -95,6 +95,33 @@ numbered-refusal AboveBid = refl
 numbered-refusal Suspended = refl
 numbered-refusal Full = refl
 numbered-refusal AboveSupport = refl
+
+-- and no two have one
+abbrev named : ℕ → Refusal
+named n =
+    cond (eqb n 1) Unsound (cond (eqb n 2) Kind (cond (eqb n 3) Path (cond (eqb n 4) Hour (cond (eqb n 5) Points (cond (eqb n 6) Quantity (cond (eqb n 7) Price (cond (eqb n 8) Differential
+    (cond (eqb n 9) Amount (cond (eqb n 10) AlreadyOpen (cond (eqb n 11) NotOpen (cond (eqb n 12) WrongStage (cond (eqb n 13) AboveBid (cond (eqb n 14) Suspended (cond (eqb n 15) Full AboveSupport))))))))))))))
+
+named-number : (e : Refusal) → named (number_of e) ≡ e
+named-number Unsound = refl
+named-number Kind = refl
+named-number Path = refl
+named-number Hour = refl
+named-number Points = refl
+named-number Quantity = refl
+named-number Price = refl
+named-number Differential = refl
+named-number Amount = refl
+named-number AlreadyOpen = refl
+named-number NotOpen = refl
+named-number WrongStage = refl
+named-number AboveBid = refl
+named-number Suspended = refl
+named-number Full = refl
+named-number AboveSupport = refl
+
+pub number-one : (e f : Refusal) → number_of e ≡ number_of f → e ≡ f
+number-one e f h = sym (named-number e) ∙ ap named h ∙ named-number f
 
 pub row-numbered : (e : Refusal) (t : Bool) → numbered (row (number_of e) t ∷ []) ≡ true
 unfolding numbered
@@ -215,6 +242,18 @@ module _ {U X : Type 0} where
   accepted_too rs u v x e = rw ((answered-accept (first rs) u v (sym e)).0)
 
 module _ {U : Type 0} where
+  number-by : (m n : ℕ) (u : U) (b : Bool) → eqb m 0 ≡ b → ◌≡◌ {A = Verdict U} (refuse n) (cond b (accept u) (refuse m)) → (m ≡ n) × (m ≡ 0 → ⊥)
+  unfolding is-accept number-in
+  number-by m n u true e h = never (ap is-accept h)
+  number-by m n u false e h = (sym (ap number-in h), λ z. never (sym e ∙ eq-eqb m 0 z))
+
+  -- what is given is the first row that applies
+  pub first_refused : (rs : List Row) (n : ℕ) (u : U) → ◌≡◌ {A = Verdict U} (refuse n) (judge rs u) → First n rs
+  unfolding judge answered
+  first_refused rs n u e =
+      let m = number-by (first rs) n u (eqb (first rs) 0) refl e in
+      subst (λ (k : ℕ). First k rs) m.0 (first-applies rs m.1)
+
   pub none_applied : (rs : List Row) (u v : U) → numbered rs ≡ true → ◌≡◌ {A = Verdict U} (accept v) (judge rs u) → None rs
   none_applied rs u v h e = (judge-accept rs u v h (sym e)).0
 
@@ -228,3 +267,9 @@ module _ {X : Type 0} where
   pub row_passed : (n : ℕ) (t : Bool) (rest : List Row) (x : X) → t ≡ false → judge (row n t ∷ rest) x ≡ judge rest x
   unfolding judge first
   row_passed n t rest x h = rw h
+
+-- `refuse_if` is a table of one row
+pub row_answered : (r : Result (Unit {0}) Refusal) (e : Refusal) (t : Bool) → MatchResult r (λ _. t ≡ false) (λ f. (t ≡ true) × (f ≡ e)) → verdict_of r ≡ judge (row (number_of e) t ∷ []) (tt {0})
+unfolding judge answered first
+row_answered (Ok u) e t h = rw h
+row_answered (Err f) e t h = rw (h.0, h.1, not-true _ (numbered-refusal e))

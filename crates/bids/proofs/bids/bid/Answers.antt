@@ -1,30 +1,35 @@
--- `bids::bid`: refused by the number that the table gives, or else the bid by its formulas.
+-- `bids::bid`: the bid's rows, and the two figures that they leave.
+use mathlib.Core.Path.{◌∙◌}
+use mathlib.Core.List.{◌∷◌}
 use borrow.Author.Tests.{le-leb}
+use Rattle.std.proofs.Common.{rules}
 use Rattle.amounts.proofs.Steps.{back}
+use Rattle.refusals.proofs.Laws.{handed_on, refused_too, accepted_too}
+use Rattle.kinds.specs.Kinds.{kind_row}
 use Rattle.kinds.proofs.Fits.{differential-small}
-use Rattle.bids.proofs.Curves.{bid-stands, refused-bid, standing-bid}
+use Rattle.bids.specs.Rows.{bid_rows}
+use Rattle.bids.specs.Entries.{bid_verdict}
+use Rattle.bids.proofs.Curves.{bid-passed}
 use Rattle.bids.proofs.bids.bid.Goals as goal
 
-pub returns-then-refusal-ne0 : goal.returns-then-refusal-ne0
-returns-then-refusal-ne0 c =
+pub returns-in_err-check_bid : goal.returns-in_err-check_bid
+unfolding bid_verdict
+returns-in_err-check_bid c =
     let s = c.args in
-    refused-bid s.kind s.mwh.now s.prices.now s.differential s.exempt c.bid_refusal-refusal.result c.bid_refusal-refusal.ensures c.if-refusal-ne0.true
+    handed_on _ c.in_err-check_bid.field-0.0 (search rules) ∙ refused_too (kind_row s.kind ∷ bid_rows s.kind s.mwh.now s.prices.now s.differential) _ (tt {0}) _ c.in_err-check_bid.ensures
 
 pub bid_mwh-requires : goal.bid_mwh-requires
-bid_mwh-requires c =
-    let s = c.args in
-    (bid-stands s.kind s.mwh.now s.prices.now s.differential c.bid_refusal-refusal.result c.bid_refusal-refusal.ensures c.if-refusal-ne0.false).0
+bid_mwh-requires c = let s = c.args in (bid-passed s.kind s.mwh.now s.prices.now s.differential c.in_ok-check_bid.ensures).0
 
 pub bid_requirement-requires : goal.bid_requirement-requires
 bid_requirement-requires c =
     let s = c.args in
-    let b = bid-stands s.kind s.mwh.now s.prices.now s.differential c.bid_refusal-refusal.result c.bid_refusal-refusal.ensures c.if-refusal-ne0.false in
+    let b = bid-passed s.kind s.mwh.now s.prices.now s.differential c.in_ok-check_bid.ensures in
     (b.0, le-leb s.differential 1000000 (differential-small s.kind s.differential b.1))
 
 pub returns : goal.returns
+unfolding bid_verdict
 returns c =
     let s = c.args in
-    standing-bid s.kind s.mwh.now s.prices.now s.differential s.exempt c.bid_refusal-refusal.result c.bid_refusal-refusal.ensures c.if-refusal-ne0.false
-    c.bid_mwh.ensures
-    (back c.bid_requirement.result c.bid_requirement.type_inv)
-    c.bid_requirement.ensures
+    rw (c.bid_mwh.ensures, back c.bid_requirement.result c.bid_requirement.type_inv, c.bid_requirement.ensures)
+    (accepted_too (kind_row s.kind ∷ bid_rows s.kind s.mwh.now s.prices.now s.differential) (tt {0}) _ _ c.in_ok-check_bid.ensures)

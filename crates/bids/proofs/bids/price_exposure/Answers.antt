@@ -1,37 +1,31 @@
 -- `bids::price_exposure`: refused by the first row that applies, or else the exposure.
-use mathlib.Core.Path.{◌≡◌, sym, subst, ◌∙◌}
+use mathlib.Core.Path.{◌≡◌, sym, subst}
 use mathlib.Core.List.{List}
-use Prim.Native.Nat.{ℕ}
 use native.Mathlib.Omega.{arith}
-use lib.IntN.{ℤ}
+use Rattle.std.proofs.Common.{rules, Err}
 use Rattle.amounts.proofs.Steps.{quantity}
-use Rattle.refusals.specs.Refusals.{None, First, first}
-use Rattle.refusals.proofs.Laws.{first-applies, none-applies}
+use Rattle.refusals.proofs.Laws.{none_applied, first_refused}
 use Rattle.bids.specs.Rows.{point_rows}
 use Rattle.bids.specs.Entries.{Exposed}
 use Rattle.bids.proofs.Curves.{fit, exposed-small, point-rows-numbered}
 use Rattle.bids.proofs.bids.price_exposure.Goals as goal
 
-pub returns-then-refusal-ne0 : goal.returns-then-refusal-ne0
+pub returns-in_err-check_points : goal.returns-in_err-check_points
 unfolding Exposed
-returns-then-refusal-ne0 c =
-    let rows = point_rows c.args.mwh.now c.args.prices.now in
-    subst (λ (n : ℕ). First n rows) (sym c.points_refusal-refusal.ensures) (first-applies rows (λ z. c.if-refusal-ne0.true (c.points_refusal-refusal.ensures ∙ z)))
-
--- past the test, none of the rows applies
-stands : (ms : List ℕ) (ps : List ℤ) {n : ℕ} → n ≡ first (point_rows ms ps) → n ≡ 0 → None (point_rows ms ps)
-stands ms ps e z = none-applies (point_rows ms ps) (point-rows-numbered ms ps) (sym e ∙ z)
+returns-in_err-check_points c =
+    let e : c.from_residual.result ≡ Err c.in_err-check_points.field-0.0 = search rules in
+    subst (λ r. Exposed c.args.mwh.now c.args.prices.now r) (sym e) (first_refused (point_rows c.args.mwh.now c.args.prices.now) _ (tt {0}) c.in_err-check_points.ensures)
 
 pub exposure-requires : goal.exposure-requires
-exposure-requires c = stands c.args.mwh.now c.args.prices.now c.points_refusal-refusal.ensures c.if-refusal-ne0.false
+exposure-requires c = none_applied (point_rows c.args.mwh.now c.args.prices.now) (tt {0}) _ (point-rows-numbered c.args.mwh.now c.args.prices.now) c.in_ok-check_points.ensures
 
 pub overflow_cast-result : goal.overflow_cast-result
 overflow_cast-result c =
-    let h = stands c.args.mwh.now c.args.prices.now c.points_refusal-refusal.ensures c.if-refusal-ne0.false in
+    let h = none_applied (point_rows c.args.mwh.now c.args.prices.now) (tt {0}) _ (point-rows-numbered c.args.mwh.now c.args.prices.now) c.in_ok-check_points.ensures in
     record { sfits = omega (arith, exposed-small (fit h) c.exposure.ensures) }
 
 pub returns : goal.returns
 unfolding Exposed
 returns c =
-    let h = stands c.args.mwh.now c.args.prices.now c.points_refusal-refusal.ensures c.if-refusal-ne0.false in
+    let h = none_applied (point_rows c.args.mwh.now c.args.prices.now) (tt {0}) _ (point-rows-numbered c.args.mwh.now c.args.prices.now) c.in_ok-check_points.ensures in
     (h, (c.exposure.result, (quantity (exposed-small (fit h) c.exposure.ensures) tt).is, c.exposure.ensures))

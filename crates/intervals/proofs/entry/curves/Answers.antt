@@ -1,35 +1,34 @@
--- `entry::curves`: refused by the number that the table gives, or else the four sums.
-use Rattle.std.proofs.Common.{arith}
-use Rattle.intervals.proofs.Laws.{curves-stand, refused-curves, standing-curves}
+-- `entry::curves`: the curves' rows, and the four sums that they leave.
+use mathlib.Core.Path.{◌∙◌, ap}
+use mathlib.Core.List.{◌∷◌}
+use Rattle.std.proofs.Common.{rules, arith}
+use Rattle.refusals.specs.Refusals.{accept}
+use Rattle.refusals.proofs.Laws.{handed_on, refused_too, accepted_too}
+use Rattle.kinds.specs.Kinds.{kind_row}
+use Rattle.intervals.specs.Intervals.{curves_rows, curves_verdict}
+use Rattle.intervals.proofs.Laws.{curves-passed}
 use Rattle.intervals.proofs.entry.curves.Goals as goal
 
-pub returns-then-refusal-ne0 : goal.returns-then-refusal-ne0
-returns-then-refusal-ne0 c =
+pub returns-in_err-check_curves : goal.returns-in_err-check_curves
+unfolding curves_verdict
+returns-in_err-check_curves c =
     let s = c.args in
-    let r = c.curves_refusal-refusal in
-    refused-curves s.kind s.counts s.mwh.now s.prices.now r.result r.ensures c.if-refusal-ne0.true
+    handed_on _ c.in_err-check_curves.field-0.0 (search rules) ∙ refused_too (kind_row s.kind ∷ curves_rows s.kind s.counts s.mwh.now s.prices.now) _ (tt {0}) _ c.in_err-check_curves.ensures
 
 pub sums-requires-clause-mwh_value : goal.sums-requires-clause-mwh_value
-sums-requires-clause-mwh_value c =
-    let s = c.args in
-    let r = c.curves_refusal-refusal in
-    (curves-stand s.kind s.counts s.mwh.now s.prices.now r.result r.ensures c.if-refusal-ne0.false).mwhs
+sums-requires-clause-mwh_value c = let s = c.args in (curves-passed s.kind s.counts s.mwh.now s.prices.now c.in_ok-check_curves.ensures).mwhs
 
 pub sums-requires-clause-counts_value : goal.sums-requires-clause-counts_value
-sums-requires-clause-counts_value c =
-    let s = c.args in
-    let r = c.curves_refusal-refusal in
-    (curves-stand s.kind s.counts s.mwh.now s.prices.now r.result r.ensures c.if-refusal-ne0.false).counts
+sums-requires-clause-counts_value c = let s = c.args in (curves-passed s.kind s.counts s.mwh.now s.prices.now c.in_ok-check_curves.ensures).counts
 
 pub sums-requires-clause-counts_in_bounds : goal.sums-requires-clause-counts_in_bounds
 sums-requires-clause-counts_in_bounds c =
     let s = c.args in
-    let r = c.curves_refusal-refusal in
-    let f = curves-stand s.kind s.counts s.mwh.now s.prices.now r.result r.ensures c.if-refusal-ne0.false in
+    let f = curves-passed s.kind s.counts s.mwh.now s.prices.now c.in_ok-check_curves.ensures in
     omega arith
 
 pub returns : goal.returns
+unfolding curves_verdict
 returns c =
     let s = c.args in
-    let r = c.curves_refusal-refusal in
-    standing-curves s.kind s.counts s.mwh.now s.prices.now r.result r.ensures c.if-refusal-ne0.false c.sums.ensures
+    ap accept c.sums.ensures ∙ accepted_too (kind_row s.kind ∷ curves_rows s.kind s.counts s.mwh.now s.prices.now) (tt {0}) _ _ c.in_ok-check_curves.ensures
