@@ -14,10 +14,8 @@ use Rattle.amounts.specs.Limits.{is_quantity, is_price}
 use Rattle.amounts.specs.Lists.{every}
 use Rattle.amounts.proofs.Signed.{signed, tested, larger-of, times-of, range-true, range-times, range-add}
 use Rattle.distinct.specs.Numbers.{stands_in}
-use Rattle.refusals.specs.Refusals.{first, None, judge}
-use Rattle.refusals.specs.declared.Figure.TheVariants.{Cents, Refused}
-use Rattle.refusals.specs.declared.Figure.{Figure}
-use Rattle.refusals.specs.Figures.{figure, cents_of}
+use Rattle.refusals.specs.Refusals.{Verdict, accept, first, None, judge}
+use Rattle.refusals.specs.Figures.{cents_of}
 use Rattle.refusals.proofs.Laws.{numbered, and_left, and_right, none-applies, judge-none, answered-some}
 use Rattle.kinds.specs.Kinds.{quarter_hour, rules_of, is_path}
 use Rattle.keys.specs.Keys.{is_hour}
@@ -132,25 +130,22 @@ module _ (s : Intervals) (q : Quote) where
       let four = interval-range s.fourth q.fourth m.fourth p.fourth in
       quarter-range (hour_cents s q) (range-add (range-add (range-add one two) three) four)
 
-  pub closed-accepted : None (closed_rows s q) → figure (closed_verdict s q) ≡ Cents (closed_requirement s q)
+  pub closed-accepted : None (closed_rows s q) → closed_verdict s q ≡ accept (closed_requirement s q)
   unfolding closed_verdict
-  closed-accepted h = ap figure (judge-none (closed_rows s q) (closed_requirement s q) h)
+  closed-accepted h = judge-none (closed_rows s q) (closed_requirement s q) h
 
-  pub closed-refused : (first (closed_rows s q) ≡ 0 → ⊥) → figure (closed_verdict s q) ≡ Refused (first (closed_rows s q))
-  unfolding closed_verdict judge
-  closed-refused h = ap figure (answered-some (first (closed_rows s q)) (closed_requirement s q) h)
-
-  pub closed_is : None (closed_rows s q) → cents_of (figure (closed_verdict s q)) ≡ closed_requirement s q
+  pub closed_is : None (closed_rows s q) → cents_of (closed_verdict s q) ≡ closed_requirement s q
   closed_is h = ap cents_of (closed-accepted h)
 
   -- whatever the sums and prices: a refusal answers 0
-  pub closed-range : Range 0 640000000000 (cents_of (figure (closed_verdict s q)))
+  pub closed-range : Range 0 640000000000 (cents_of (closed_verdict s q))
+  unfolding closed_verdict judge
   closed-range =
       let n = first (closed_rows s q) in
       tested (eqb n 0)
       (λ e. let none = none-applies (closed_rows s q) (closed-rows-numbered s q) (eqb-true n 0 e) in
       subst (Range 0 640000000000) (sym (closed_is none)) (requirement-range none))
-      (λ e. subst (λ (f : Figure). Range 0 640000000000 (cents_of f)) (sym (closed-refused (eqb-false n 0 e))) (omega arith))
+      (λ e. subst (λ (v : Verdict ℤ). Range 0 640000000000 (cents_of v)) (sym (answered-some n (closed_requirement s q) (eqb-false n 0 e))) (omega arith))
 
 -- ---- a path that is not listed requires nothing
 times_zero : (n : ℕ) → pos n *ℤ pos 0 ≡ pos 0

@@ -3,7 +3,7 @@
 use mathlib.Core.Path.{◌≡◌, refl}
 use lib.IntN.{pos}
 use Rattle.refusals.specs.Refusals.{first, answered, judge}
-use Rattle.refusals.specs.Figures.{figure, refusal_of, cents_of}
+use Rattle.refusals.specs.Figures.{refusal_of, cents_of}
 use Rattle.intervals.specs.declared.types.Intervals.{Intervals}
 use Rattle.closings.specs.Closings.{Quote, hour_cents, quarter_up, closed_requirement, closed_rows, closed_verdict}
 
@@ -18,6 +18,6 @@ unfolding closed_requirement hour_cents quarter_up
 paper-requirement = refl
 
 -- and the entry answers it
-pub paper-answer : (refusal_of (figure (closed_verdict sums prices)) ≡ 0) × (cents_of (figure (closed_verdict sums prices)) ≡ pos 412500)
+pub paper-answer : (refusal_of (closed_verdict sums prices) ≡ 0) × (cents_of (closed_verdict sums prices) ≡ pos 412500)
 unfolding first answered judge closed_requirement hour_cents quarter_up closed_rows closed_verdict
 paper-answer = (refl, refl)

@@ -5,5 +5,5 @@ mod lists;
 mod requirements;
 pub mod types;
 
-pub use lists::{close_refusal, listed, quote_at};
+pub use lists::{check_close, listed, quote_at};
 pub use requirements::closed;

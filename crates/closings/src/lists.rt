@@ -1,7 +1,7 @@
 // What a close lists.
 ghost use Rattle.std.specs.Prelude.{◌≡◌, true, pos, get_or};
 ghost use Rattle.amounts.specs.Lists.{every};
-ghost use Rattle.refusals.specs.Refusals.{first};
+ghost use Rattle.refusals.specs.Refusals.{judge, verdict_of};
 ghost use Rattle.kinds.specs.Kinds.{quarter_hour, rules_of, is_path};
 ghost use Rattle.closings.specs.Closings.{quote_at, each_once, close_rows};
 ghost use Rattle.closings.specs.Listing.{Lists};
@@ -9,7 +9,7 @@ ghost use Rattle.closings.specs.Listing.{Lists};
 use crate::types::{Listed, Quote};
 use keys::Key;
 use kinds::Kind;
-use refusals::pick;
+use refusals::{Refusal, refuse_if};
 
 fn paths_in_range(paths: &[u64]) -> bool
     ensures { result ≡ every (is_path (rules_of quarter_hour)) paths.now }
@@ -46,23 +46,17 @@ pub fn listed(paths: &[u64]) -> Listed
     Listed { places, once }
 }
 
-// Refusals 3, 4, 5 and 7 of a close; 0 is none.
-pub fn close_refusal(hour: u64, paths: &[u64], prices: &[i64]) -> u64
-    ensures { result ≡ first (close_rows hour paths.now prices.now) }
+// Refusals 3, 4, 5 and 7 of a close.
+#[tactic(auto, unfolding(crate::specs::Closings::close_rows, refusals::specs::Refusals::judge, refusals::specs::Refusals::answered, refusals::specs::Refusals::first))]
+pub fn check_close(hour: u64, paths: &[u64], prices: &[i64]) -> Result<(), Refusal>
+    ensures { verdict_of result ≡ judge (close_rows hour paths.now prices.now) tt }
 {
-    if !paths_in_range(paths) {
-        return 3;
-    }
+    refuse_if(!paths_in_range(paths), Refusal::Path)?;
+    refuse_if(!(hour <= Key::MAX_HOUR), Refusal::Hour)?;
     let four = (prices.len() / 4 == paths.len()) & (prices.len() % 4 == 0);
-    pick(
-        !(hour <= Key::MAX_HOUR),
-        4,
-        pick(
-            !(listed(paths).once & four),
-            5,
-            pick(!amounts::prices_in_range(prices), 7, 0),
-        ),
-    )
+    // Where the paths are in range: the table of listed paths has a place for each.
+    refuse_if(!(listed(paths).once & four), Refusal::Points)?;
+    refuse_if(!amounts::prices_in_range(prices), Refusal::Price)
 }
 
 fn price_at(prices: &[i64], i: u64) -> i64

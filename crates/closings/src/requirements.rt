@@ -2,19 +2,20 @@
 ghost use Rattle.std.specs.Prelude.{◌≡◌, true, pos, ◌*ℤ◌};
 ghost use Rattle.amounts.specs.Amount.{Range, Within};
 ghost use Rattle.amounts.specs.Limits.{is_quantity};
-ghost use Rattle.refusals.specs.Refusals.{first, None};
-ghost use Rattle.refusals.specs.Figures.{figure};
+ghost use Rattle.refusals.specs.Refusals.{None, judge, verdict_of};
 ghost use Rattle.closings.specs.Closings.{hour_cents, quarter_up, closed_rows, closed_verdict};
 
 use crate::types::Quote;
 use amounts::Price;
 use intervals::types::Intervals;
-use refusals::{Figure, pick};
+use refusals::{Refusal, refuse_if};
 
-// Refusals 6 and 7; 0 is none.
-fn closed_refusal(sums: Intervals, quote: Quote) -> u64
-    ensures { result ≡ first (closed_rows sums quote) }
+// Refusals 6 and 7.
+#[tactic(auto, unfolding(crate::specs::Closings::closed_rows, refusals::specs::Refusals::judge, refusals::specs::Refusals::answered, refusals::specs::Refusals::first))]
+fn check_closed(sums: Intervals, quote: Quote) -> Result<(), Refusal>
+    ensures { verdict_of result ≡ judge (closed_rows sums quote) tt }
 {
+    refuse_if(!sums.in_range(), Refusal::Quantity)?;
     let priced = Price { cents: quote.first }.in_range()
         & Price {
             cents: quote.second,
@@ -25,7 +26,7 @@ fn closed_refusal(sums: Intervals, quote: Quote) -> u64
             cents: quote.fourth,
         }
         .in_range();
-    pick(!sums.in_range(), 6, pick(!priced, 7, 0))
+    refuse_if(!priced, Refusal::Price)
 }
 
 // The MWh of an interval at its price.
@@ -58,13 +59,9 @@ fn quarter_up(cents: i64) -> i64
 }
 
 // Stage 2 of a fifteen-minute bid: the requirement of its four sums at the four prices of its path.
-pub fn closed(sums: Intervals, quote: Quote) -> Figure
-    ensures { result ≡ figure (closed_verdict sums quote) }
+pub fn closed(sums: Intervals, quote: Quote) -> Result<i64, Refusal>
+    ensures { verdict_of result ≡ closed_verdict sums quote }
 {
-    let number = closed_refusal(sums, quote);
-    if number == 0 {
-        Figure::Cents(quarter_up(hour_cents(sums, quote)))
-    } else {
-        Figure::Refused(number)
-    }
+    check_closed(sums, quote)?;
+    Ok(quarter_up(hour_cents(sums, quote)))
 }

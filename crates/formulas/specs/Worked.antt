@@ -2,13 +2,9 @@
 -- proofs/Worked.antt shows that the formulas give every amount; the program `worked` is proved to ask the library for these rows.
 -- Assumes nothing.
 use Rattle.std.specs.Prelude.{false, cond, List, [], ◌∷◌, ℕ, eqb, ℤ, pos, neg_ℤ}
-use Rattle.refusals.specs.declared.Figure.{Figure}
-use Rattle.refusals.specs.declared.Figure.TheVariants.{Cents, Refused}
-use Rattle.refusals.specs.Figures.{figure}
+use Rattle.refusals.specs.declared.Bid.{Bid}
+use Rattle.refusals.specs.Refusals.{Verdict, refuse, accept}
 use Rattle.kinds.specs.Kinds.{import, export, wheel}
-use Rattle.refusals.specs.declared.BidAnswer.{BidAnswer}
-use Rattle.refusals.specs.declared.BidAnswer.TheVariants.{Stands, Refused as BidRefused}
-use Rattle.refusals.specs.Answers.{bid_answer}
 use Rattle.bids.specs.Entries.{bid_verdict}
 use Rattle.formulas.specs.Entries.{posted_verdict, finished_verdict}
 
@@ -48,23 +44,23 @@ examples =
 -- ---- what the library answers
 
 -- the requirement of a bid, or its refusal
-abbrev pub requirement_of : BidAnswer → Figure
-requirement_of (Stands b) = Cents b.cents
-requirement_of (BidRefused n) = Refused n
+abbrev pub requirement_of : Verdict Bid → Verdict ℤ
+requirement_of (accept b) = accept b.cents
+requirement_of (refuse n) = refuse n
 
 -- the promises of `bids::bid`, `formulas::posted` and `formulas::finished`; no example is exempt
-abbrev pub answer : Ask → Figure
-answer (bid kind mwhs prices differential) = requirement_of (bid_answer (bid_verdict kind mwhs prices differential false))
-answer (posted kind schedule price second differential) = figure (posted_verdict kind differential false schedule price second)
-answer (finished kind schedule actual day_ahead price second amount) = figure (finished_verdict kind false schedule day_ahead amount actual price second)
+abbrev pub answer : Ask → Verdict ℤ
+answer (bid kind mwhs prices differential) = requirement_of (bid_verdict kind mwhs prices differential false)
+answer (posted kind schedule price second differential) = posted_verdict kind differential false schedule price second
+answer (finished kind schedule actual day_ahead price second amount) = finished_verdict kind false schedule day_ahead amount actual price second
 
-abbrev pub answers : List Example → List Figure
+abbrev pub answers : List Example → List (Verdict ℤ)
 answers [] = []
 answers (W n ask cents ∷ rows) = answer ask ∷ answers rows
 
-abbrev pub given : List Example → List Figure
+abbrev pub given : List Example → List (Verdict ℤ)
 given [] = []
-given (W n ask cents ∷ rows) = Cents (pos cents) ∷ given rows
+given (W n ask cents ∷ rows) = accept (pos cents) ∷ given rows
 
 -- what the example of a label asks; nothing that is answered, where the table has no such label
 abbrev pub asked_in : List Example → ℕ → Ask

@@ -2,15 +2,14 @@
 ghost use Rattle.std.specs.Prelude.{◌≡◌, true, pos, ◌-ℤ◌};
 ghost use Rattle.amounts.specs.Amount.{max_of};
 ghost use Rattle.amounts.specs.Limits.{is_quantity, is_price, is_differential, is_pending};
-ghost use Rattle.refusals.specs.Refusals.{None};
-ghost use Rattle.refusals.specs.Figures.{figure};
+ghost use Rattle.refusals.specs.Refusals.{None, verdict_of};
 ghost use Rattle.formulas.specs.Stages.{import_posted, import_finished, export_posted, export_finished, hour_ahead_finished, wheel_posted, wheel_finished, posted_requirement, finished_requirement};
 ghost use Rattle.deliveries.specs.Rows.{posted_rows, finished_rows};
 ghost use Rattle.formulas.specs.Entries.{posted_verdict, finished_verdict, billed_verdict};
 
-use deliveries::{bill_refusal, finished_refusal, posted_refusal};
+use deliveries::{check_bill, check_finished, check_posted};
 use kinds::{Kind, unless_exempt};
-use refusals::Figure;
+use refusals::Refusal;
 
 // ---- import
 
@@ -162,15 +161,11 @@ pub fn posted(
     schedule: u64,
     price: i64,
     second: i64,
-) -> Figure
-    ensures { result ≡ figure (posted_verdict kind differential exempt schedule price second) }
+) -> Result<i64, Refusal>
+    ensures { verdict_of result ≡ posted_verdict kind differential exempt schedule price second }
 {
-    let number = posted_refusal(kind, differential, schedule, price, second);
-    if number == 0 {
-        Figure::Cents(posted_requirement(kind, differential, exempt, schedule, price, second))
-    } else {
-        Figure::Refused(number)
-    }
+    check_posted(kind, differential, schedule, price, second)?;
+    Ok(posted_requirement(kind, differential, exempt, schedule, price, second))
 }
 
 // Stage 3: the requirement once the actual MWh are known. `posted_cents` is what the record holds at stage 2.
@@ -183,10 +178,10 @@ pub fn finished(
     actual: u64,
     price: i64,
     second: i64,
-) -> Figure
-    ensures { result ≡ figure (finished_verdict kind exempt schedule day_ahead posted_cents actual price second) }
+) -> Result<i64, Refusal>
+    ensures { verdict_of result ≡ finished_verdict kind exempt schedule day_ahead posted_cents actual price second }
 {
-    let number = finished_refusal(
+    check_finished(
         kind,
         schedule,
         day_ahead,
@@ -194,31 +189,23 @@ pub fn finished(
         actual,
         price,
         second,
-    );
-    if number == 0 {
-        Figure::Cents(finished_requirement(
-            kind,
-            exempt,
-            schedule,
-            day_ahead,
-            posted_cents,
-            actual,
-            price,
-            second,
-        ))
-    } else {
-        Figure::Refused(number)
-    }
+    )?;
+    Ok(finished_requirement(
+        kind,
+        exempt,
+        schedule,
+        day_ahead,
+        posted_cents,
+        actual,
+        price,
+        second,
+    ))
 }
 
 // Stage 4: the bill, signed.
-pub fn billed(amount: i64) -> Figure
-    ensures { result ≡ figure (billed_verdict amount) }
+pub fn billed(amount: i64) -> Result<i64, Refusal>
+    ensures { verdict_of result ≡ billed_verdict amount }
 {
-    let number = bill_refusal(amount);
-    if number == 0 {
-        Figure::Cents(amount)
-    } else {
-        Figure::Refused(number)
-    }
+    check_bill(amount)?;
+    Ok(amount)
 }

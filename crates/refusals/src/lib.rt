@@ -2,8 +2,9 @@
 #![tactic(auto)]
 
 ghost use Rattle.std.specs.Prelude.{◌≡◌, true, false, MatchResult};
-ghost use Rattle.refusals.specs.Refusals.{number_of};
-ghost use Rattle.refusals.specs.Answers.{reply};
+ghost use Rattle.refusals.specs.Refusals.{number_of, verdict_of};
+ghost use Rattle.refusals.specs.Answers.{bid_of, reply};
+ghost use Rattle.refusals.specs.Figures.{refusal_of, cents_of};
 
 // Why a message is turned away, in the table's order; its number there is `number`'s.
 #[derive(Clone, Copy, Debug, PartialEq, Eq)]
@@ -58,11 +59,35 @@ pub fn refuse_if(applies: bool, refusal: Refusal) -> Result<(), Refusal>
     if applies { Err(refusal) } else { Ok(()) }
 }
 
+// The number of an answer's refusal; 0 is none.
+pub fn refusal_number<T>(answer: &Result<T, Refusal>) -> u64
+    ensures { result ≡ refusal_of (verdict_of answer.now) }
+{
+    match answer {
+        Ok(_) => 0,
+        Err(refusal) => refusal.number(),
+    }
+}
+
+// An amount in cents; 0 where it is refused.
+pub fn cents_or_zero(answer: Result<i64, Refusal>) -> i64
+    ensures { result ≡ cents_of (verdict_of answer) }
+{
+    answer.unwrap_or(0)
+}
+
 // A bid group: its bid MWh, and its requirement in cents.
 #[derive(Clone, Copy, Debug, PartialEq, Eq)]
 pub struct Bid {
     pub mwh: u64,
     pub cents: i64,
+}
+
+// A bid; a refusal's is 0 throughout.
+pub fn bid_or_zero(answer: Result<Bid, Refusal>) -> Bid
+    ensures { result ≡ bid_of (verdict_of answer) }
+{
+    answer.unwrap_or(Bid { mwh: 0, cents: 0 })
 }
 
 // What a message answers: held and net owed, and its requirement or the number of the refusal.

@@ -1,28 +1,26 @@
--- `closed`: each arm is the verdict by the number that the rows give.
-use mathlib.Core.Path.{sym, ap, ◌∙◌}
+-- `closed`: the rows of a close's bid, and the requirement that they leave.
+use mathlib.Core.Path.{◌∙◌, ap}
+use Rattle.std.proofs.Common.{rules}
 use Rattle.amounts.proofs.Steps.{back, gave, kept}
-use Rattle.refusals.specs.Refusals.{None}
-use Rattle.refusals.specs.declared.Figure.TheVariants.{Cents, Refused}
-use Rattle.refusals.proofs.Laws.{none-applies}
-use Rattle.closings.specs.Closings.{quarter_up, closed_requirement, closed_rows}
-use Rattle.closings.proofs.Laws.{closed-rows-numbered, closed-accepted, closed-refused}
+use Rattle.refusals.specs.Refusals.{accept}
+use Rattle.refusals.proofs.Laws.{handed_on, refused_too, accepted_too, none_applied}
+use Rattle.closings.specs.Closings.{quarter_up, closed_requirement, closed_rows, closed_verdict}
+use Rattle.closings.proofs.Laws.{closed-rows-numbered}
 use Rattle.closings.proofs.requirements.closed.Goals as goal
+
+pub returns-in_err-check_closed : goal.returns-in_err-check_closed
+unfolding closed_verdict
+returns-in_err-check_closed c =
+    handed_on _ c.in_err-check_closed.field-0.0 (search rules) ∙ refused_too (closed_rows c.args.sums c.args.quote) _ (tt {0}) _ c.in_err-check_closed.ensures
 
 pub hour_cents-requires : goal.hour_cents-requires
 hour_cents-requires c =
     let a = c.args in
-    none-applies (closed_rows a.sums a.quote) (closed-rows-numbered a.sums a.quote) (sym c.closed_refusal-number.ensures ∙ c.if-number-eq0.true)
+    none_applied (closed_rows a.sums a.quote) (tt {0}) _ (closed-rows-numbered a.sums a.quote) c.in_ok-check_closed.ensures
 
-pub returns-then-number-eq0 : goal.returns-then-number-eq0
-unfolding closed_requirement
-returns-then-number-eq0 c =
+pub returns : goal.returns
+unfolding closed_requirement closed_verdict
+returns c =
     let a = c.args in
-    let none : None (closed_rows a.sums a.quote) = none-applies (closed_rows a.sums a.quote) (closed-rows-numbered a.sums a.quote) (sym c.closed_refusal-number.ensures ∙ c.if-number-eq0.true) in
-    ap Cents (back c.quarter_up.result c.quarter_up.type_inv ∙ c.quarter_up.ensures.0 ∙ ap quarter_up (kept (gave c.hour_cents.ensures) tt).is)
-    ∙ sym (closed-accepted a.sums a.quote none)
-
-pub returns-else-number-eq0 : goal.returns-else-number-eq0
-returns-else-number-eq0 c =
-    let a = c.args in
-    let n = c.closed_refusal-number.ensures in
-    ap Refused n ∙ sym (closed-refused a.sums a.quote (λ e. c.if-number-eq0.false (n ∙ e)))
+    ap accept (back c.quarter_up.result c.quarter_up.type_inv ∙ c.quarter_up.ensures.0 ∙ ap quarter_up (kept (gave c.hour_cents.ensures) tt).is)
+    ∙ accepted_too (closed_rows a.sums a.quote) (tt {0}) _ _ c.in_ok-check_closed.ensures

@@ -1,25 +1,20 @@
--- `formulas::stages::billed`: each arm is the verdict by the number that the rows give.
-use mathlib.Core.Path.{sym, ap, ◌∙◌}
+-- `formulas::stages::billed`: the bill's row, and the bill itself.
+use mathlib.Core.Path.{◌∙◌, ap}
+use mir.Syntax.{w64}
 use mir.Facts.{to_z-of_z}
-use lib.IntN.{ℤ}
-use Rattle.refusals.specs.Refusals.{first}
-use Rattle.refusals.specs.declared.Figure.TheVariants.{Cents, Refused}
-use Rattle.refusals.proofs.Laws.{none-applies}
+use Rattle.std.proofs.Common.{rules}
+use Rattle.refusals.specs.Refusals.{accept}
+use Rattle.refusals.proofs.Laws.{handed_on, refused_too, accepted_too}
 use Rattle.deliveries.specs.Rows.{bill_rows}
-use Rattle.deliveries.proofs.Numbered.{bill-rows-numbered}
-use Rattle.formulas.proofs.StageLaws.{billed-accepted, billed-refused}
+use Rattle.formulas.specs.Entries.{billed_verdict}
 use Rattle.formulas.proofs.stages.billed.Goals as goal
 
--- the number is that of the amount itself
-pub returns-then-number-eq0 : goal.returns-then-number-eq0
-returns-then-number-eq0 c =
-    let amount = c.args.amount in
-    let number = c.bill_refusal-number.ensures ∙ ap (λ (z : ℤ). first (bill_rows z)) (to_z-of_z c.ranges.amount) in
-    let none = none-applies (bill_rows amount) (bill-rows-numbered amount) (sym number ∙ c.if-number-eq0.true) in
-    ap Cents (to_z-of_z c.ranges.amount) ∙ sym (billed-accepted amount none)
+pub returns-in_err-check_bill : goal.returns-in_err-check_bill
+unfolding billed_verdict
+returns-in_err-check_bill c =
+    handed_on _ c.in_err-check_bill.field-0.0 (search rules) ∙ refused_too (bill_rows c.args.amount) _ (tt {0}) _ (rw (to_z-of_z {w = w64} c.ranges.amount) at c.in_err-check_bill.ensures)
 
-pub returns-else-number-eq0 : goal.returns-else-number-eq0
-returns-else-number-eq0 c =
-    let amount = c.args.amount in
-    let number = c.bill_refusal-number.ensures ∙ ap (λ (z : ℤ). first (bill_rows z)) (to_z-of_z c.ranges.amount) in
-    ap Refused number ∙ sym (billed-refused amount (λ e. c.if-number-eq0.false (number ∙ e)))
+pub returns : goal.returns
+unfolding billed_verdict
+returns c =
+    ap accept (to_z-of_z {w = w64} c.ranges.amount) ∙ accepted_too (bill_rows c.args.amount) (tt {0}) _ _ (rw (to_z-of_z {w = w64} c.ranges.amount) at c.in_ok-check_bill.ensures)

@@ -1,31 +1,36 @@
--- `formulas::stages::finished`: each arm is the verdict by the number that the rows give, which is that of the numbers themselves.
-use mathlib.Core.Path.{◌≡◌, sym, ap, ◌∙◌}
+-- `formulas::stages::finished`: the finished amount's rows, and the requirement that they leave.
+use mathlib.Core.Path.{◌≡◌, ◌∙◌}
 use mathlib.Core.List.{◌∷◌}
 use mir.Syntax.{w64}
 use mir.Facts.{to_z-of_z}
+use Rattle.std.proofs.Common.{rules}
 use Rattle.amounts.proofs.Steps.{back}
-use Rattle.refusals.specs.Refusals.{first, None}
-use Rattle.refusals.specs.declared.Figure.TheVariants.{Refused}
-use Rattle.refusals.proofs.Laws.{none-applies}
+use Rattle.refusals.specs.Refusals.{None}
+use Rattle.refusals.proofs.Laws.{handed_on, refused_too, accepted_too, none_applied}
 use Rattle.kinds.specs.Kinds.{kind_row}
 use Rattle.deliveries.specs.Rows.{finished_rows}
 use Rattle.deliveries.proofs.Numbered.{finished-rows-numbered}
-use Rattle.formulas.proofs.StageLaws.{finished-accepted, finished-refused}
+use Rattle.formulas.specs.Entries.{finished_verdict}
 use Rattle.formulas.proofs.stages.finished.Goals as goal
+
+pub returns-in_err-check_finished : goal.returns-in_err-check_finished
+unfolding finished_verdict
+returns-in_err-check_finished c =
+    let a = c.args in
+    handed_on _ c.in_err-check_finished.field-0.0 (search rules)
+    ∙ refused_too (kind_row a.kind ∷ finished_rows a.kind a.schedule a.day_ahead a.posted_cents a.actual a.price a.second) _ (tt {0}) _ (rw (to_z-of_z {w = w64} c.ranges.day_ahead, to_z-of_z {w = w64} c.ranges.posted_cents, to_z-of_z {w = w64} c.ranges.price, to_z-of_z {w = w64} c.ranges.second) at c.in_err-check_finished.ensures)
 
 pub finished_requirement-requires : goal.finished_requirement-requires
 unfolding None
 finished_requirement-requires c =
     let a = c.args in
-    let number : c.finished_refusal-number.result ≡ first (kind_row a.kind ∷ finished_rows a.kind a.schedule a.day_ahead a.posted_cents a.actual a.price a.second) = rw (c.finished_refusal-number.ensures, to_z-of_z {w = w64} c.ranges.day_ahead, to_z-of_z {w = w64} c.ranges.posted_cents, to_z-of_z {w = w64} c.ranges.price, to_z-of_z {w = w64} c.ranges.second) in
-    let none = none-applies (kind_row a.kind ∷ finished_rows a.kind a.schedule a.day_ahead a.posted_cents a.actual a.price a.second) (finished-rows-numbered a.kind a.schedule a.day_ahead a.posted_cents a.actual a.price a.second) (sym number ∙ c.if-number-eq0.true) in
+    let none = none_applied (kind_row a.kind ∷ finished_rows a.kind a.schedule a.day_ahead a.posted_cents a.actual a.price a.second) (tt {0}) _ (finished-rows-numbered a.kind a.schedule a.day_ahead a.posted_cents a.actual a.price a.second) (rw (to_z-of_z {w = w64} c.ranges.day_ahead, to_z-of_z {w = w64} c.ranges.posted_cents, to_z-of_z {w = w64} c.ranges.price, to_z-of_z {w = w64} c.ranges.second) at c.in_ok-check_finished.ensures) in
     rw (to_z-of_z {w = w64} c.ranges.day_ahead, to_z-of_z {w = w64} c.ranges.posted_cents, to_z-of_z {w = w64} c.ranges.price, to_z-of_z {w = w64} c.ranges.second) none.1
 
-pub returns-then-number-eq0 : goal.returns-then-number-eq0
-returns-then-number-eq0 c =
+pub returns : goal.returns
+unfolding finished_verdict
+returns c =
     let a = c.args in
-    let number : c.finished_refusal-number.result ≡ first (kind_row a.kind ∷ finished_rows a.kind a.schedule a.day_ahead a.posted_cents a.actual a.price a.second) = rw (c.finished_refusal-number.ensures, to_z-of_z {w = w64} c.ranges.day_ahead, to_z-of_z {w = w64} c.ranges.posted_cents, to_z-of_z {w = w64} c.ranges.price, to_z-of_z {w = w64} c.ranges.second) in
-    let none = none-applies (kind_row a.kind ∷ finished_rows a.kind a.schedule a.day_ahead a.posted_cents a.actual a.price a.second) (finished-rows-numbered a.kind a.schedule a.day_ahead a.posted_cents a.actual a.price a.second) (sym number ∙ c.if-number-eq0.true) in
     rw (
       back c.finished_requirement.result c.finished_requirement.type_inv,
       c.finished_requirement.ensures,
@@ -33,11 +38,5 @@ returns-then-number-eq0 c =
       to_z-of_z {w = w64} c.ranges.posted_cents,
       to_z-of_z {w = w64} c.ranges.price,
       to_z-of_z {w = w64} c.ranges.second,
-      finished-accepted a.kind a.exempt a.schedule a.day_ahead a.posted_cents a.actual a.price a.second none,
     )
-
-pub returns-else-number-eq0 : goal.returns-else-number-eq0
-returns-else-number-eq0 c =
-    let a = c.args in
-    let number : c.finished_refusal-number.result ≡ first (kind_row a.kind ∷ finished_rows a.kind a.schedule a.day_ahead a.posted_cents a.actual a.price a.second) = rw (c.finished_refusal-number.ensures, to_z-of_z {w = w64} c.ranges.day_ahead, to_z-of_z {w = w64} c.ranges.posted_cents, to_z-of_z {w = w64} c.ranges.price, to_z-of_z {w = w64} c.ranges.second) in
-    ap Refused number ∙ sym (finished-refused a.kind a.exempt a.schedule a.day_ahead a.posted_cents a.actual a.price a.second (λ e. c.if-number-eq0.false (number ∙ e)))
+    (accepted_too (kind_row a.kind ∷ finished_rows a.kind a.schedule a.day_ahead a.posted_cents a.actual a.price a.second) (tt {0}) _ _ (rw (to_z-of_z {w = w64} c.ranges.day_ahead, to_z-of_z {w = w64} c.ranges.posted_cents, to_z-of_z {w = w64} c.ranges.price, to_z-of_z {w = w64} c.ranges.second) at c.in_ok-check_finished.ensures))

@@ -1,41 +1,40 @@
--- `formulas::stages::posted`: each arm is the verdict by the number that the rows give, which is that of the numbers themselves.
-use mathlib.Core.Path.{◌≡◌, sym, ap, ◌∙◌}
+-- `formulas::stages::posted`: the posted amount's rows, and the requirement that they leave.
+use mathlib.Core.Path.{◌≡◌, ◌∙◌}
 use mathlib.Core.List.{◌∷◌}
 use mir.Syntax.{w64}
 use mir.Facts.{to_z-of_z}
+use Rattle.std.proofs.Common.{rules}
 use Rattle.amounts.proofs.Steps.{back}
-use Rattle.refusals.specs.Refusals.{first, None}
-use Rattle.refusals.specs.declared.Figure.TheVariants.{Refused}
-use Rattle.refusals.proofs.Laws.{none-applies}
+use Rattle.refusals.specs.Refusals.{None}
+use Rattle.refusals.proofs.Laws.{handed_on, refused_too, accepted_too, none_applied}
 use Rattle.kinds.specs.Kinds.{kind_row}
 use Rattle.deliveries.specs.Rows.{posted_rows}
 use Rattle.deliveries.proofs.Numbered.{posted-rows-numbered}
-use Rattle.formulas.proofs.StageLaws.{posted-accepted, posted-refused}
+use Rattle.formulas.specs.Entries.{posted_verdict}
 use Rattle.formulas.proofs.stages.posted.Goals as goal
+
+pub returns-in_err-check_posted : goal.returns-in_err-check_posted
+unfolding posted_verdict
+returns-in_err-check_posted c =
+    let a = c.args in
+    handed_on _ c.in_err-check_posted.field-0.0 (search rules)
+    ∙ refused_too (kind_row a.kind ∷ posted_rows a.kind a.differential a.schedule a.price a.second) _ (tt {0}) _ (rw (to_z-of_z {w = w64} c.ranges.price, to_z-of_z {w = w64} c.ranges.second) at c.in_err-check_posted.ensures)
 
 pub posted_requirement-requires : goal.posted_requirement-requires
 unfolding None
 posted_requirement-requires c =
     let a = c.args in
-    let number : c.posted_refusal-number.result ≡ first (kind_row a.kind ∷ posted_rows a.kind a.differential a.schedule a.price a.second) = rw (c.posted_refusal-number.ensures, to_z-of_z {w = w64} c.ranges.price, to_z-of_z {w = w64} c.ranges.second) in
-    let none = none-applies (kind_row a.kind ∷ posted_rows a.kind a.differential a.schedule a.price a.second) (posted-rows-numbered a.kind a.differential a.schedule a.price a.second) (sym number ∙ c.if-number-eq0.true) in
+    let none = none_applied (kind_row a.kind ∷ posted_rows a.kind a.differential a.schedule a.price a.second) (tt {0}) _ (posted-rows-numbered a.kind a.differential a.schedule a.price a.second) (rw (to_z-of_z {w = w64} c.ranges.price, to_z-of_z {w = w64} c.ranges.second) at c.in_ok-check_posted.ensures) in
     rw (to_z-of_z {w = w64} c.ranges.price, to_z-of_z {w = w64} c.ranges.second) none.1
 
-pub returns-then-number-eq0 : goal.returns-then-number-eq0
-returns-then-number-eq0 c =
+pub returns : goal.returns
+unfolding posted_verdict
+returns c =
     let a = c.args in
-    let number : c.posted_refusal-number.result ≡ first (kind_row a.kind ∷ posted_rows a.kind a.differential a.schedule a.price a.second) = rw (c.posted_refusal-number.ensures, to_z-of_z {w = w64} c.ranges.price, to_z-of_z {w = w64} c.ranges.second) in
-    let none = none-applies (kind_row a.kind ∷ posted_rows a.kind a.differential a.schedule a.price a.second) (posted-rows-numbered a.kind a.differential a.schedule a.price a.second) (sym number ∙ c.if-number-eq0.true) in
     rw (
       back c.posted_requirement.result c.posted_requirement.type_inv,
       c.posted_requirement.ensures,
       to_z-of_z {w = w64} c.ranges.price,
       to_z-of_z {w = w64} c.ranges.second,
-      posted-accepted a.kind a.differential a.exempt a.schedule a.price a.second none,
     )
-
-pub returns-else-number-eq0 : goal.returns-else-number-eq0
-returns-else-number-eq0 c =
-    let a = c.args in
-    let number : c.posted_refusal-number.result ≡ first (kind_row a.kind ∷ posted_rows a.kind a.differential a.schedule a.price a.second) = rw (c.posted_refusal-number.ensures, to_z-of_z {w = w64} c.ranges.price, to_z-of_z {w = w64} c.ranges.second) in
-    ap Refused number ∙ sym (posted-refused a.kind a.differential a.exempt a.schedule a.price a.second (λ e. c.if-number-eq0.false (number ∙ e)))
+    (accepted_too (kind_row a.kind ∷ posted_rows a.kind a.differential a.schedule a.price a.second) (tt {0}) _ _ (rw (to_z-of_z {w = w64} c.ranges.price, to_z-of_z {w = w64} c.ranges.second) at c.in_ok-check_posted.ensures))
