@@ -4,7 +4,7 @@ use mathlib.Core.Path.{◌≡◌, ap}
 use mathlib.Core.List.{List, ◌∷◌}
 use Prim.Native.Nat.{ℕ}
 use lib.IntN.{ℤ}
-use Rattle.refusals.specs.Refusals.{Verdict, None}
+use Rattle.refusals.specs.Refusals.{None}
 use Rattle.refusals.proofs.Laws.{judge-none}
 use Rattle.bids.specs.Points.{curve}
 use Rattle.bids.specs.Bids.{bid_mwh, bid_requirement}
@@ -12,9 +12,9 @@ use Rattle.formulas.specs.Stages.{posted_requirement, finished_requirement}
 use Rattle.bids.specs.Rows.{bid_rows}
 use Rattle.deliveries.specs.Rows.{posted_rows, finished_rows}
 use Rattle.refusals.specs.declared.Bid.{Bid}
-use Rattle.refusals.specs.Figures.{cents_of, figure}
+use Rattle.refusals.specs.Figures.{cents_of}
 use Rattle.kinds.specs.Kinds.{kind_row}
-use Rattle.refusals.specs.Answers.{bid_of, bid_answer}
+use Rattle.refusals.specs.Answers.{bid_of}
 use Rattle.bids.specs.Entries.{bid_verdict}
 use Rattle.formulas.specs.Entries.{posted_verdict, finished_verdict}
 use Rattle.intervals.specs.Intervals.{intervals_of}
@@ -33,7 +33,7 @@ bid_of01 o ms ps =
 pub bid-passed-is : (o : Opening) (ms : List ℕ) (ps : List ℤ) → BidPassed o ms ps → bid_for o ms ps ≡ bid_of01 o ms ps
 unfolding bid_for bid_verdict
 bid-passed-is o ms ps h =
-    ap (λ (v : Verdict Bid). bid_of (bid_answer v)) (judge-none (kind_row o.key.kind ∷ bid_rows o.key.kind ms ps o.differential) (bid_of01 o ms ps) h.rows)
+    ap bid_of (judge-none (kind_row o.key.kind ∷ bid_rows o.key.kind ms ps o.differential) (bid_of01 o ms ps) h.rows)
 
 pub bid-is : (old : Record) (o : Opening) (ms : List ℕ) (ps : List ℤ) → None (plan_rows old (Open o) ms ps) → bid_for o ms ps ≡ bid_of01 o ms ps
 bid-is old o ms ps h = bid-passed-is o ms ps (open-passed old o ms ps h).0
@@ -45,7 +45,7 @@ pub posted-passed-is : (old : Record) (p : Posting) → PostPassed old p
     → posted_for old p ≡ posted_requirement old.key.kind old.differential old.exempt p.schedule p.price p.second
 unfolding posted_for posted_verdict
 posted-passed-is old p h =
-    ap (λ (v : Verdict ℤ). cents_of (figure v))
+    ap cents_of
     (judge-none (kind_row old.key.kind ∷ posted_rows old.key.kind old.differential p.schedule p.price p.second)
     (posted_requirement old.key.kind old.differential old.exempt p.schedule p.price p.second)
     h.rows)
@@ -58,7 +58,7 @@ pub finished-passed-is : (old : Record) (f : Finishing) → FinishPassed old f
     → finished_for old f ≡ finished_requirement old.key.kind old.exempt old.schedule old.price old.requirement f.actual f.price f.second
 unfolding finished_for finished_verdict
 finished-passed-is old f h =
-    ap (λ (v : Verdict ℤ). cents_of (figure v))
+    ap cents_of
     (judge-none (kind_row old.key.kind ∷ finished_rows old.key.kind old.schedule old.price old.requirement f.actual f.price f.second)
     (finished_requirement old.key.kind old.exempt old.schedule old.price old.requirement f.actual f.price f.second)
     h.rows)

@@ -7,27 +7,26 @@ use Prim.Native.Nat.{ℕ}
 use lib.Dec.{leb, eqb}
 use lib.IntN.{ℤ}
 use borrow.Author.Tests.{eqb-true}
-use Rattle.refusals.specs.Refusals.{Row, row, first, refuse, accept, answered, judge, or_else}
-use Rattle.refusals.proofs.Laws.{numbered, first-append, numbered-append}
+use Rattle.refusals.specs.Refusals.{Row, row, refuse, accept, judge, None}
+use Rattle.refusals.proofs.Laws.{numbered, numbered-append, stopped, passed, row_passed, none_applied}
 use Rattle.bids.specs.Rows.{bid_rows}
 use Rattle.deliveries.specs.Rows.{delivery_rows, bill_rows}
 use Rattle.refusals.specs.declared.Bid.{Bid}
 use Rattle.kinds.specs.Kinds.{is_kind, kind_row, rules_of, bid_stage, billed_stage}
-use Rattle.refusals.specs.Answers.{bid_refusal_of, bid_answer}
 use Rattle.bids.specs.Entries.{bid_verdict}
 use Rattle.bids.proofs.Curves.{bid-rows-numbered}
 use Rattle.deliveries.proofs.Numbered.{delivery-rows-numbered, bill-rows-numbered}
-use Rattle.intervals.specs.Intervals.{curves_rows, curves_verdict, curves_answer, curves_refusal_of}
-use Rattle.intervals.proofs.Laws.{curves-rows-numbered, curves-refusal-is}
+use Rattle.intervals.specs.Intervals.{curves_rows, curves_verdict}
+use Rattle.intervals.proofs.Laws.{curves-rows-numbered}
 use Rattle.closings.proofs.Laws.{close-rows-numbered}
 use Rattle.virtuals.specs.Virtuals.{side_rows, mwh_rows, bid_verdict as sides_verdict}
-use Rattle.virtuals.proofs.Laws.{side-rows-numbered, mwh-rows-numbered, bid-number}
-use Rattle.refusals.specs.Figures.{figure, refusal_of}
+use Rattle.virtuals.proofs.Laws.{side-rows-numbered, mwh-rows-numbered}
+use Rattle.intervals.specs.declared.types.Intervals.{Intervals}
 use Rattle.keys.specs.declared.Key.{Key}
 use Rattle.keys.specs.Keys.{key_rows}
 use Rattle.records.specs.declared.types.Record.{Record}
 use Rattle.records.specs.Records.{is_free}
-use Rattle.messages.specs.Plan.{Message, Opening, Curves, Open, Revise, Withdraw, Post, Finish, Bill, Pay, Support, OpenCurves, ReviseCurves, Close, OpenSides, ReviseSides, PostSides, Sides, zone_key, stage_rows, plan_rows}
+use Rattle.messages.specs.Plan.{Deed, Message, Opening, Curves, Open, Revise, Withdraw, Post, Finish, Bill, Pay, Support, OpenCurves, ReviseCurves, Close, OpenSides, ReviseSides, PostSides, Sides, zone_key, stage_rows, plan_rows}
 
 -- ---- no row has the number 0
 key-rows-numbered : (k : Key) → numbered (key_rows k) ≡ true
@@ -91,99 +90,78 @@ plan-rows-numbered old (PostSides p) ms ps =
     (numbered-append (mwh_rows p.load p.supply) _ (mwh-rows-numbered p.load p.supply)
     (numbered-append (stage_rows old stage) _ (stage-rows-numbered old stage) (one-numbered 13 (not (leb p.load old.mwh && leb p.supply old.supply.mwh)) refl)))
 
--- ---- one table below another, by what each gives
-pub key_above : (k : Key) (rest : List Row) → first (key_rows k ++ rest) ≡ or_else (first (key_rows k)) (first rest)
-key_above k rest = first-append (key_rows k) rest (key-rows-numbered k)
+-- what passes the key's rows has a kind
+kind-in : (k : Key) → accept (tt {0}) ≡ judge (key_rows k) (tt {0}) → not (is_kind k.kind) ≡ false
+unfolding None key_rows
+kind-in k e = (none_applied (key_rows k) (tt {0}) (tt {0}) (key-rows-numbered k) e).0
 
-pub last_row : (n : ℕ) (t : Bool) → first (row n t ∷ []) ≡ cond t n 0
-unfolding first
-last_row n t = refl
+-- ---- one table above another, as the code asks them: n is the number that the upper gives up with
+module _ (rest : List Row) (n : ℕ) (x : Deed) where
+  pub key_refused : (k : Key) → refuse n ≡ judge (key_rows k) (tt {0}) → refuse n ≡ judge (key_rows k ++ rest) x
+  key_refused k e = stopped (key_rows k) rest n (tt {0}) x (key-rows-numbered k) e
 
-pub stage-above : (old : Record) (right : Bool) (rest : List Row) → first (stage_rows old right ++ rest) ≡ or_else (first (stage_rows old right)) (first rest)
-stage-above old right rest = first-append (stage_rows old right) rest (stage-rows-numbered old right)
+  pub stage_refused : (old : Record) (right : Bool) → refuse n ≡ judge (stage_rows old right) (tt {0}) → refuse n ≡ judge (stage_rows old right ++ rest) x
+  stage_refused old right e = stopped (stage_rows old right) rest n (tt {0}) x (stage-rows-numbered old right) e
 
-pub delivery-above : (kind mwh : ℕ) (price second : ℤ) (rest : List Row) → first (delivery_rows kind mwh price second ++ rest) ≡ or_else (first (delivery_rows kind mwh price second)) (first rest)
-delivery-above kind mwh price second rest = first-append (delivery_rows kind mwh price second) rest (delivery-rows-numbered kind mwh price second)
+  pub delivery_refused : (kind mwh : ℕ) (price second : ℤ) → refuse n ≡ judge (delivery_rows kind mwh price second) (tt {0}) → refuse n ≡ judge (delivery_rows kind mwh price second ++ rest) x
+  delivery_refused kind mwh price second e = stopped (delivery_rows kind mwh price second) rest n (tt {0}) x (delivery-rows-numbered kind mwh price second) e
 
-pub bill-above : (cents : ℤ) (rest : List Row) → first (bill_rows cents ++ rest) ≡ or_else (first (bill_rows cents)) (first rest)
-bill-above cents rest = first-append (bill_rows cents) rest (bill-rows-numbered cents)
+  pub bill_refused : (cents : ℤ) → refuse n ≡ judge (bill_rows cents) (tt {0}) → refuse n ≡ judge (bill_rows cents ++ rest) x
+  bill_refused cents e = stopped (bill_rows cents) rest n (tt {0}) x (bill-rows-numbered cents) e
 
--- ---- the number that the library's bid answers
-bid-by : (t : Bool) (n : ℕ) (bid : Bid) → eqb n 0 ≡ t → bid_refusal_of (bid_answer (cond t (accept bid) (refuse n))) ≡ n
-bid-by true n bid e = sym (eqb-true n 0 e)
-bid-by false n bid e = refl
+  pub mwh_refused : (load supply : ℕ) → refuse n ≡ judge (mwh_rows load supply) (tt {0}) → refuse n ≡ judge (mwh_rows load supply ++ rest) x
+  mwh_refused load supply e = stopped (mwh_rows load supply) rest n (tt {0}) x (mwh-rows-numbered load supply) e
 
-bid-refusal : (kind : ℕ) (ms : List ℕ) (ps : List ℤ) (differential : ℕ) (exempt : Bool) → bid_refusal_of (bid_answer (bid_verdict kind ms ps differential exempt)) ≡ first (kind_row kind ∷ bid_rows kind ms ps differential)
-unfolding bid_verdict judge answered
-bid-refusal kind ms ps differential exempt = let n = first (kind_row kind ∷ bid_rows kind ms ps differential) in bid-by (eqb n 0) n _ refl
+  pub sides_refused : (s : Sides) → refuse n ≡ sides_verdict s.load s.supply → refuse n ≡ judge (side_rows s.load s.supply ++ rest) x
+  unfolding sides_verdict
+  sides_refused s e = stopped (side_rows s.load s.supply) rest n _ x (side-rows-numbered s.load s.supply) e
 
--- the number that it answers to an open or a revise
-abbrev pub bid_number : Opening → List ℕ → List ℤ → ℕ
-bid_number o ms ps = bid_refusal_of (bid_answer (bid_verdict o.key.kind ms ps o.differential o.exempt))
+  -- the library tests the kind again, which the key's rows have passed
+  pub bid_refused : (o : Opening) (ms : List ℕ) (ps : List ℤ) → accept (tt {0}) ≡ judge (key_rows o.key) (tt {0}) → refuse n ≡ bid_verdict o.key.kind ms ps o.differential o.exempt
+      → refuse n ≡ judge (bid_rows o.key.kind ms ps o.differential ++ rest) x
+  unfolding bid_verdict
+  bid_refused o ms ps k e =
+      let rows = bid_rows o.key.kind ms ps o.differential in
+      stopped rows rest n _ x (bid-rows-numbered o.key.kind ms ps o.differential) (e ∙ row_passed 2 (not (is_kind o.key.kind)) rows _ (kind-in o.key k))
 
--- the library tests the kind again, which the key's rows have passed
-kind-by : (t : Bool) (rest n below : ℕ) → or_else (cond (not t) 2 rest) (or_else (cond (not t) 2 n) below) ≡ or_else (cond (not t) 2 rest) (or_else n below)
-unfolding or_else
-kind-by true rest n below = refl
-kind-by false rest n below = refl
+  pub curves_refused : (c : Curves) (ms : List ℕ) (ps : List ℤ) → accept (tt {0}) ≡ judge (key_rows c.key) (tt {0}) → refuse n ≡ curves_verdict c.key.kind c.counts ms ps
+      → refuse n ≡ judge (curves_rows c.key.kind c.counts ms ps ++ rest) x
+  unfolding curves_verdict
+  curves_refused c ms ps k e =
+      let rows = curves_rows c.key.kind c.counts ms ps in
+      stopped rows rest n _ x (curves-rows-numbered c.key.kind c.counts ms ps) (e ∙ row_passed 2 (not (is_kind c.key.kind)) rows _ (kind-in c.key k))
 
-kind-once : (k : Key) (rows : List Row) (below : ℕ) → or_else (first (key_rows k)) (or_else (first (kind_row k.kind ∷ rows)) below) ≡ or_else (first (key_rows k)) (or_else (first rows) below)
-unfolding first key_rows
-kind-once k rows below = kind-by (is_kind k.kind) _ (first rows) below
+-- ---- and once it is passed
+module _ (rest : List Row) (x : Deed) where
+  pub key_passed : (k : Key) → accept (tt {0}) ≡ judge (key_rows k) (tt {0}) → judge rest x ≡ judge (key_rows k ++ rest) x
+  key_passed k e = sym (passed (key_rows k) rest (tt {0}) (tt {0}) x (key-rows-numbered k) e)
 
-bid-above : (o : Opening) (ms : List ℕ) (ps : List ℤ) (rest : List Row) → first (key_rows o.key ++ (bid_rows o.key.kind ms ps o.differential ++ rest)) ≡ or_else (first (key_rows o.key)) (or_else (bid_number o ms ps) (first rest))
-bid-above o ms ps rest =
-    let rows = bid_rows o.key.kind ms ps o.differential in
-    key_above o.key (rows ++ rest)
-    ∙ ap (or_else (first (key_rows o.key))) (first-append rows rest (bid-rows-numbered o.key.kind ms ps o.differential))
-    ∙ sym (kind-once o.key rows (first rest))
-    ∙ ap (λ (n : ℕ). or_else (first (key_rows o.key)) (or_else n (first rest))) (sym (bid-refusal o.key.kind ms ps o.differential o.exempt))
+  pub stage_passed : (old : Record) (right : Bool) → accept (tt {0}) ≡ judge (stage_rows old right) (tt {0}) → judge rest x ≡ judge (stage_rows old right ++ rest) x
+  stage_passed old right e = sym (passed (stage_rows old right) rest (tt {0}) (tt {0}) x (stage-rows-numbered old right) e)
 
-pub open-table : (old : Record) (o : Opening) (ms : List ℕ) (ps : List ℤ) → or_else (first (key_rows o.key)) (or_else (bid_number o ms ps) (cond (not (is_free old)) 10 0)) ≡ first (plan_rows old (Open o) ms ps)
-open-table old o ms ps =
-    let free = row 10 (not (is_free old)) ∷ [] in sym (bid-above o ms ps free ∙ ap (λ (n : ℕ). or_else (first (key_rows o.key)) (or_else (bid_number o ms ps) n)) (last_row 10 (not (is_free old))))
+  pub delivery_passed : (kind mwh : ℕ) (price second : ℤ) → accept (tt {0}) ≡ judge (delivery_rows kind mwh price second) (tt {0}) → judge rest x ≡ judge (delivery_rows kind mwh price second ++ rest) x
+  delivery_passed kind mwh price second e = sym (passed (delivery_rows kind mwh price second) rest (tt {0}) (tt {0}) x (delivery-rows-numbered kind mwh price second) e)
 
-pub revise-table : (old : Record) (o : Opening) (ms : List ℕ) (ps : List ℤ) → or_else (first (key_rows o.key)) (or_else (bid_number o ms ps) (first (stage_rows old (eqb old.stage bid_stage)))) ≡ first (plan_rows old (Revise o) ms ps)
-revise-table old o ms ps = sym (bid-above o ms ps (stage_rows old (eqb old.stage bid_stage)))
+  pub bill_passed : (cents : ℤ) → accept (tt {0}) ≡ judge (bill_rows cents) (tt {0}) → judge rest x ≡ judge (bill_rows cents ++ rest) x
+  bill_passed cents e = sym (passed (bill_rows cents) rest (tt {0}) (tt {0}) x (bill-rows-numbered cents) e)
 
--- ---- four curves (02, order 3)
-abbrev pub curves_number : Curves → List ℕ → List ℤ → ℕ
-curves_number c ms ps = curves_refusal_of (curves_answer (curves_verdict c.key.kind c.counts ms ps))
+  pub mwh_passed : (load supply : ℕ) → accept (tt {0}) ≡ judge (mwh_rows load supply) (tt {0}) → judge rest x ≡ judge (mwh_rows load supply ++ rest) x
+  mwh_passed load supply e = sym (passed (mwh_rows load supply) rest (tt {0}) (tt {0}) x (mwh-rows-numbered load supply) e)
 
-curves-above : (c : Curves) (ms : List ℕ) (ps : List ℤ) (rest : List Row) → first (key_rows c.key ++ (curves_rows c.key.kind c.counts ms ps ++ rest)) ≡ or_else (first (key_rows c.key)) (or_else (curves_number c ms ps) (first rest))
-curves-above c ms ps rest =
-    let rows = curves_rows c.key.kind c.counts ms ps in
-    key_above c.key (rows ++ rest)
-    ∙ ap (or_else (first (key_rows c.key))) (first-append rows rest (curves-rows-numbered c.key.kind c.counts ms ps))
-    ∙ sym (kind-once c.key rows (first rest))
-    ∙ ap (λ (n : ℕ). or_else (first (key_rows c.key)) (or_else n (first rest))) (sym (curves-refusal-is c.key.kind c.counts ms ps))
+  pub sides_passed : (s : Sides) (cents : ℤ) → accept cents ≡ sides_verdict s.load s.supply → judge rest x ≡ judge (side_rows s.load s.supply ++ rest) x
+  unfolding sides_verdict
+  sides_passed s cents e = sym (passed (side_rows s.load s.supply) rest _ cents x (side-rows-numbered s.load s.supply) e)
 
-pub open-curves-table : (old : Record) (c : Curves) (ms : List ℕ) (ps : List ℤ) → or_else (first (key_rows c.key)) (or_else (curves_number c ms ps) (cond (not (is_free old)) 10 0)) ≡ first (plan_rows old (OpenCurves c) ms ps)
-open-curves-table old c ms ps =
-    let free = row 10 (not (is_free old)) ∷ [] in sym (curves-above c ms ps free ∙ ap (λ (n : ℕ). or_else (first (key_rows c.key)) (or_else (curves_number c ms ps) n)) (last_row 10 (not (is_free old))))
+  pub bid_passed : (o : Opening) (ms : List ℕ) (ps : List ℤ) (bid : Bid) → accept (tt {0}) ≡ judge (key_rows o.key) (tt {0}) → accept bid ≡ bid_verdict o.key.kind ms ps o.differential o.exempt
+      → judge rest x ≡ judge (bid_rows o.key.kind ms ps o.differential ++ rest) x
+  unfolding bid_verdict
+  bid_passed o ms ps bid k e =
+      let rows = bid_rows o.key.kind ms ps o.differential in
+      sym (passed rows rest _ bid x (bid-rows-numbered o.key.kind ms ps o.differential) (e ∙ row_passed 2 (not (is_kind o.key.kind)) rows _ (kind-in o.key k)))
 
-pub revise-curves-table : (old : Record) (c : Curves) (ms : List ℕ) (ps : List ℤ) → or_else (first (key_rows c.key)) (or_else (curves_number c ms ps) (first (stage_rows old (eqb old.stage bid_stage)))) ≡ first (plan_rows old (ReviseCurves c) ms ps)
-revise-curves-table old c ms ps = sym (curves-above c ms ps (stage_rows old (eqb old.stage bid_stage)))
-
--- ---- two sides (02, order 6)
-abbrev pub sides_number : Sides → ℕ
-sides_number s = refusal_of (figure (sides_verdict s.load s.supply))
-
-sides-above : (s : Sides) (rest : List Row) → first (key_rows (zone_key s.zone s.hour) ++ (side_rows s.load s.supply ++ rest)) ≡ or_else (first (key_rows (zone_key s.zone s.hour))) (or_else (sides_number s) (first rest))
-sides-above s rest =
-    let key = zone_key s.zone s.hour in
-    let rows = side_rows s.load s.supply in
-    key_above key (rows ++ rest)
-    ∙ ap (or_else (first (key_rows key))) (first-append rows rest (side-rows-numbered s.load s.supply))
-    ∙ ap (λ (n : ℕ). or_else (first (key_rows key)) (or_else n (first rest))) (sym (bid-number s.load s.supply))
-
-pub open-sides-table : (old : Record) (s : Sides) (ms : List ℕ) (ps : List ℤ) → or_else (first (key_rows (zone_key s.zone s.hour))) (or_else (sides_number s) (cond (not (is_free old)) 10 0)) ≡ first (plan_rows old (OpenSides s) ms ps)
-open-sides-table old s ms ps =
-    let free = row 10 (not (is_free old)) ∷ [] in
-    sym (sides-above s free ∙ ap (λ (n : ℕ). or_else (first (key_rows (zone_key s.zone s.hour))) (or_else (sides_number s) n)) (last_row 10 (not (is_free old))))
-
-pub revise-sides-table : (old : Record) (s : Sides) (ms : List ℕ) (ps : List ℤ) → or_else (first (key_rows (zone_key s.zone s.hour))) (or_else (sides_number s) (first (stage_rows old (eqb old.stage bid_stage)))) ≡ first (plan_rows old (ReviseSides s) ms ps)
-revise-sides-table old s ms ps = sym (sides-above s (stage_rows old (eqb old.stage bid_stage)))
-
-pub mwh-above : (load supply : ℕ) (rest : List Row) → first (mwh_rows load supply ++ rest) ≡ or_else (first (mwh_rows load supply)) (first rest)
-mwh-above load supply rest = first-append (mwh_rows load supply) rest (mwh-rows-numbered load supply)
+  pub curves_passed : (c : Curves) (ms : List ℕ) (ps : List ℤ) (sums : Intervals) → accept (tt {0}) ≡ judge (key_rows c.key) (tt {0}) → accept sums ≡ curves_verdict c.key.kind c.counts ms ps
+      → judge rest x ≡ judge (curves_rows c.key.kind c.counts ms ps ++ rest) x
+  unfolding curves_verdict
+  curves_passed c ms ps sums k e =
+      let rows = curves_rows c.key.kind c.counts ms ps in
+      sym (passed rows rest _ sums x (curves-rows-numbered c.key.kind c.counts ms ps) (e ∙ row_passed 2 (not (is_kind c.key.kind)) rows _ (kind-in c.key k)))

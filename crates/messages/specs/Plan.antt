@@ -3,17 +3,17 @@
 -- Assumes nothing.
 use Rattle.std.specs.Prelude.{Bool, true, false, ◌&&◌, not, cond, List, [], ◌∷◌, ◌++◌, ℕ, leb, eqb, ℤ}
 use Rattle.amounts.specs.Limits.{is_support}
-use Rattle.refusals.specs.Refusals.{Row, row, Verdict, refuse, accept, judge}
+use Rattle.refusals.specs.Refusals.{Row, row, Verdict, judge}
 use Rattle.kinds.specs.Kinds.{virtual, rules_of, bid_stage, posted_stage, finished_stage, billed_stage}
 use Rattle.bids.specs.Rows.{bid_rows}
 use Rattle.deliveries.specs.Rows.{delivery_rows, bill_rows}
 use Rattle.refusals.specs.declared.Bid.{Bid}
-use Rattle.refusals.specs.Figures.{figure, cents_of}
-use Rattle.refusals.specs.Answers.{bid_answer, bid_of}
+use Rattle.refusals.specs.Figures.{cents_of}
+use Rattle.refusals.specs.Answers.{bid_of}
 use Rattle.bids.specs.Entries.{bid_verdict}
 use Rattle.formulas.specs.Entries.{posted_verdict, finished_verdict}
 use Rattle.intervals.specs.declared.types.Intervals.{Intervals}
-use Rattle.intervals.specs.Intervals.{curves_rows, curves_verdict, curves_answer, intervals_in}
+use Rattle.intervals.specs.Intervals.{curves_rows, curves_verdict, intervals_in}
 use Rattle.closings.specs.Closings.{close_rows}
 use Rattle.virtuals.specs.declared.Side.{Side}
 use Rattle.virtuals.specs.Virtuals.{side_rows, mwh_rows, bid_verdict as sides_verdict, posted_verdict as sides_posted_verdict}
@@ -27,11 +27,9 @@ pub use Rattle.messages.specs.declared.types.Sides.{Sides}
 pub use Rattle.messages.specs.declared.types.SidesPosting.{SidesPosting}
 pub use Rattle.messages.specs.declared.types.Change.{Change}
 pub use Rattle.messages.specs.declared.types.Deed.{Deed}
-pub use Rattle.messages.specs.declared.types.Planned.{Planned}
 pub use Rattle.messages.specs.declared.types.Message.TheVariants.{Open, Revise, Withdraw, Post, Finish, Bill, Pay, Support, OpenCurves, ReviseCurves, Close, OpenSides, ReviseSides, PostSides}
 pub use Rattle.messages.specs.declared.types.Change.TheVariants.{Add, AddPending, Rebid, Advance, Remove}
 pub use Rattle.messages.specs.declared.types.Deed.TheVariants.{Keyed, SetSupport, CloseHour}
-use Rattle.messages.specs.declared.types.Planned.TheVariants.{Refused, Asks}
 use Rattle.keys.specs.declared.Key.{Key}
 use Rattle.keys.specs.Keys.{key_rows}
 use Rattle.records.specs.declared.types.Record.{Record}
@@ -54,32 +52,32 @@ later_record old stage cents = advanced old stage old.schedule old.price cents
 -- ---- the amounts, by the formula library's answers
 
 unfoldable pub bid_for : Opening → List ℕ → List ℤ → Bid
-bid_for o mwhs prices = bid_of (bid_answer (bid_verdict o.key.kind mwhs prices o.differential o.exempt))
+bid_for o mwhs prices = bid_of (bid_verdict o.key.kind mwhs prices o.differential o.exempt)
 
 unfoldable pub posted_for : Record → Posting → ℤ
-posted_for r p = cents_of (figure (posted_verdict r.key.kind r.differential r.exempt p.schedule p.price p.second))
+posted_for r p = cents_of (posted_verdict r.key.kind r.differential r.exempt p.schedule p.price p.second)
 
 unfoldable pub finished_for : Record → Finishing → ℤ
 finished_for r f =
-    cents_of (figure (finished_verdict r.key.kind r.exempt r.schedule r.price r.requirement f.actual f.price f.second))
+    cents_of (finished_verdict r.key.kind r.exempt r.schedule r.price r.requirement f.actual f.price f.second)
 
 -- 02, order 3: 'the record keeps its four MWh sums'
 unfoldable pub intervals_for : Curves → List ℕ → List ℤ → Intervals
-intervals_for c mwhs prices = intervals_in (curves_answer (curves_verdict c.key.kind c.counts mwhs prices))
+intervals_for c mwhs prices = intervals_in (curves_verdict c.key.kind c.counts mwhs prices)
 
 -- 02, order 6: 'with path 1 to 11 for zones A to K and both sides in one key'
 abbrev pub zone_key : ℕ → ℕ → Key
 zone_key zone hour = record { kind = virtual; path = zone; hour = hour }
 
 unfoldable pub sides_for : Sides → ℤ
-sides_for s = cents_of (figure (sides_verdict s.load s.supply))
+sides_for s = cents_of (sides_verdict s.load s.supply)
 
 -- what was posted of each side, at the differential that it was bid with
 abbrev pub posted_side : ℕ → ℕ → Side
 posted_side mwh differential = record { mwh = mwh; differential = differential }
 
 unfoldable pub sides_posted_for : Record → SidesPosting → ℤ
-sides_posted_for r p = cents_of (figure (sides_posted_verdict (posted_side p.load r.differential) (posted_side p.supply r.supply.differential)))
+sides_posted_for r p = cents_of (sides_posted_verdict (posted_side p.load r.differential) (posted_side p.supply r.supply.differential))
 
 -- ---- what a message asks for
 
@@ -165,8 +163,3 @@ plan_rows old (PostSides p) mwhs prices =
 
 unfoldable pub plan : Record → Message → List ℕ → List ℤ → Verdict Deed
 plan old m mwhs prices = judge (plan_rows old m mwhs prices) (deed_for old m mwhs prices)
-
--- the code's case of a verdict
-abbrev pub planned : Verdict Deed → Planned
-planned (refuse n) = Refused n
-planned (accept d) = Asks d

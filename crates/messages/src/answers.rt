@@ -1,24 +1,12 @@
 // What is common to the messages' plans.
 ghost use Rattle.std.specs.Prelude.{◌≡◌};
-ghost use Rattle.refusals.specs.Refusals.{first, answered};
-ghost use Rattle.messages.specs.Plan.{zone_key, stage_rows, planned};
+ghost use Rattle.refusals.specs.Refusals.{judge, verdict_of};
+ghost use Rattle.messages.specs.Plan.{zone_key, stage_rows};
 
-use crate::types::{Deed, Planned};
 use keys::Key;
 use kinds::Kind;
 use records::types::Record;
-use refusals::pick;
-
-// The case of a number and what was asked for; 0 is no refusal.
-pub fn answer(number: u64, deed: Deed) -> Planned
-    ensures { result ≡ planned (answered number deed) }
-{
-    if number == 0 {
-        Planned::Asks(deed)
-    } else {
-        Planned::Refused(number)
-    }
-}
+use refusals::{Refusal, refuse_if};
 
 // The key of a virtual bid (02, order 6).
 pub fn zone_key(zone: u64, hour: u64) -> Key
@@ -32,8 +20,10 @@ pub fn zone_key(zone: u64, hour: u64) -> Key
 }
 
 // Refusals 11 and 12.
-pub fn stage_refusal(old: Record, right: bool) -> u64
-    ensures { result ≡ first (stage_rows old right) }
+#[tactic(auto, unfolding(crate::specs::Plan::stage_rows, refusals::specs::Refusals::judge, refusals::specs::Refusals::answered, refusals::specs::Refusals::first))]
+pub fn check_stage(old: Record, right: bool) -> Result<(), Refusal>
+    ensures { verdict_of result ≡ judge (stage_rows old right) tt }
 {
-    pick(old.is_free(), 11, pick(!right, 12, 0))
+    refuse_if(old.is_free(), Refusal::NotOpen)?;
+    refuse_if(!right, Refusal::WrongStage)
 }

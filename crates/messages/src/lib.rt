@@ -4,4 +4,4 @@
 mod answers;
 pub mod types;
 
-pub use answers::{answer, stage_refusal, zone_key};
+pub use answers::{check_stage, zone_key};

@@ -110,10 +110,3 @@ pub enum Deed {
     // The pending bids of an hour, as one batch.
     CloseHour(u64),
 }
-
-// Refusals 2 to 13 of a message, or what it asks for.
-#[derive(Clone, Copy)]
-pub enum Planned {
-    Refused(u64),
-    Asks(Deed),
-}

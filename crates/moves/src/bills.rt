@@ -1,36 +1,25 @@
 // A bill.
 ghost use Rattle.std.specs.Prelude.{◌≡◌, []};
-ghost use Rattle.refusals.specs.Refusals.{first};
-ghost use Rattle.messages.specs.Plan.{plan_rows, plan, planned};
+ghost use Rattle.refusals.specs.Refusals.{verdict_of};
+ghost use Rattle.messages.specs.Plan.{plan};
 
 use crate::finishes::later_record;
 use kinds::{Kind, Stage};
-use messages::types::{Billing, Change, Deed, Message, Planned};
-use messages::{answer, stage_refusal};
+use messages::types::{Billing, Change, Deed, Message};
+use messages::check_stage;
 use records::types::Record;
-use refusals::or_else;
+use refusals::Refusal;
 
-// Refusals 2 to 12.
-fn bill_refusal(billing: Billing, old: Record) -> u64
-    ensures { result ≡ first (plan_rows old (Message.Bill billing) [] []) }
+pub fn bill(billing: Billing, old: Record) -> Result<Deed, Refusal>
+    ensures { verdict_of result ≡ plan old (Message.Bill billing) [] [] }
 {
     let rules = Kind {
         number: billing.key.kind,
     }
     .rules();
-    let amount = deliveries::bill_refusal(billing.cents);
-    or_else(
-        billing.key.refusal(),
-        or_else(amount, stage_refusal(old, old.stage == rules.billed)),
-    )
-}
-
-pub fn bill(billing: Billing, old: Record) -> Planned
-    ensures { result ≡ planned (plan old (Message.Bill billing) [] []) }
-{
+    billing.key.check()?;
+    deliveries::check_bill(billing.cents)?;
+    check_stage(old, old.stage == rules.billed)?;
     let next = later_record(old, Stage::BILLED, billing.cents);
-    answer(
-        bill_refusal(billing, old),
-        Deed::Keyed(Change::Advance(next)),
-    )
+    Ok(Deed::Keyed(Change::Advance(next)))
 }

@@ -1,13 +1,13 @@
 // A finished hour.
 ghost use Rattle.std.specs.Prelude.{◌≡◌, []};
-ghost use Rattle.refusals.specs.Refusals.{first};
-ghost use Rattle.messages.specs.Plan.{later_record, finished_for, plan_rows, plan, planned};
+ghost use Rattle.refusals.specs.Refusals.{verdict_of};
+ghost use Rattle.messages.specs.Plan.{later_record, finished_for, plan};
 
 use kinds::{Kind, Stage};
-use messages::types::{Change, Deed, Finishing, Message, Planned};
-use messages::{answer, stage_refusal};
+use messages::types::{Change, Deed, Finishing, Message};
+use messages::check_stage;
 use records::types::Record;
-use refusals::or_else;
+use refusals::{Refusal, cents_or_zero};
 
 // The record at stage 3 or 4, which keeps no more of the message than its amount.
 pub(crate) fn later_record(old: Record, stage: u64, cents: i64) -> Record
@@ -16,30 +16,10 @@ pub(crate) fn later_record(old: Record, stage: u64, cents: i64) -> Record
     old.advanced(stage, old.schedule, old.price, cents)
 }
 
-// Refusals 2 to 12.
-fn finish_refusal(finishing: Finishing, old: Record) -> u64
-    ensures { result ≡ first (plan_rows old (Message.Finish finishing) [] []) }
-{
-    let rules = Kind {
-        number: finishing.key.kind,
-    }
-    .rules();
-    let delivery = deliveries::delivery_refusal(
-        finishing.key.kind,
-        finishing.actual,
-        finishing.price,
-        finishing.second,
-    );
-    or_else(
-        finishing.key.refusal(),
-        or_else(delivery, stage_refusal(old, old.stage == rules.finished)),
-    )
-}
-
 fn finished_cents(finishing: Finishing, old: Record) -> i64
     ensures { result ≡ finished_for old finishing }
 {
-    formulas::finished(
+    cents_or_zero(formulas::finished(
         old.key.kind,
         old.exempt,
         old.schedule,
@@ -48,16 +28,17 @@ fn finished_cents(finishing: Finishing, old: Record) -> i64
         finishing.actual,
         finishing.price,
         finishing.second,
-    )
-    .cents()
+    ))
 }
 
-pub fn finish(finishing: Finishing, old: Record) -> Planned
-    ensures { result ≡ planned (plan old (Message.Finish finishing) [] []) }
+pub fn finish(finishing: Finishing, old: Record) -> Result<Deed, Refusal>
+    ensures { verdict_of result ≡ plan old (Message.Finish finishing) [] [] }
 {
+    let kind = finishing.key.kind;
+    let rules = Kind { number: kind }.rules();
+    finishing.key.check()?;
+    deliveries::check_delivery(kind, finishing.actual, finishing.price, finishing.second)?;
+    check_stage(old, old.stage == rules.finished)?;
     let next = later_record(old, Stage::FINISHED, finished_cents(finishing, old));
-    answer(
-        finish_refusal(finishing, old),
-        Deed::Keyed(Change::Advance(next)),
-    )
+    Ok(Deed::Keyed(Change::Advance(next)))
 }

@@ -1,14 +1,14 @@
 // A posted schedule.
 ghost use Rattle.std.specs.Prelude.{◌≡◌, cond, []};
-ghost use Rattle.refusals.specs.Refusals.{first};
+ghost use Rattle.refusals.specs.Refusals.{verdict_of};
 ghost use Rattle.kinds.specs.Kinds.{rules_of};
-ghost use Rattle.messages.specs.Plan.{posted_record, posted_for, plan_rows, plan, planned};
+ghost use Rattle.messages.specs.Plan.{posted_record, posted_for, plan};
 
 use kinds::{Kind, Stage};
-use messages::types::{Change, Deed, Message, Planned, Posting};
-use messages::{answer, stage_refusal};
+use messages::types::{Change, Deed, Message, Posting};
+use messages::check_stage;
 use records::types::Record;
-use refusals::{or_else, pick};
+use refusals::{Refusal, cents_or_zero, refuse_if};
 
 // The Day-Ahead price that the record then has.
 fn day_ahead_price(old: Record, price: i64) -> i64
@@ -29,52 +29,28 @@ fn posted_record(old: Record, posting: Posting, cents: i64) -> Record
     old.advanced(Stage::POSTED, posting.schedule, price, cents)
 }
 
-// Refusals 2 to 13.
-fn post_refusal(posting: Posting, old: Record) -> u64
-    ensures { result ≡ first (plan_rows old (Message.Post posting) [] []) }
-{
-    let rules = Kind {
-        number: posting.key.kind,
-    }
-    .rules();
-    let delivery = deliveries::delivery_refusal(
-        posting.key.kind,
-        posting.schedule,
-        posting.price,
-        posting.second,
-    );
-    or_else(
-        posting.key.refusal(),
-        or_else(
-            delivery,
-            or_else(
-                stage_refusal(old, old.stage == rules.posted),
-                pick(!(posting.schedule <= old.mwh), 13, 0),
-            ),
-        ),
-    )
-}
-
 fn posted_cents(posting: Posting, old: Record) -> i64
     ensures { result ≡ posted_for old posting }
 {
-    formulas::posted(
+    cents_or_zero(formulas::posted(
         old.key.kind,
         old.differential,
         old.exempt,
         posting.schedule,
         posting.price,
         posting.second,
-    )
-    .cents()
+    ))
 }
 
-pub fn post(posting: Posting, old: Record) -> Planned
-    ensures { result ≡ planned (plan old (Message.Post posting) [] []) }
+pub fn post(posting: Posting, old: Record) -> Result<Deed, Refusal>
+    ensures { verdict_of result ≡ plan old (Message.Post posting) [] [] }
 {
+    let kind = posting.key.kind;
+    let rules = Kind { number: kind }.rules();
+    posting.key.check()?;
+    deliveries::check_delivery(kind, posting.schedule, posting.price, posting.second)?;
+    check_stage(old, old.stage == rules.posted)?;
+    refuse_if(!(posting.schedule <= old.mwh), Refusal::AboveBid)?;
     let next = posted_record(old, posting, posted_cents(posting, old));
-    answer(
-        post_refusal(posting, old),
-        Deed::Keyed(Change::Advance(next)),
-    )
+    Ok(Deed::Keyed(Change::Advance(next)))
 }

@@ -12,7 +12,7 @@ use lib.Signed.{◌≤ℤ◌}
 use Rattle.amounts.specs.Amount.{Range}
 use Rattle.amounts.specs.Limits.{is_differential}
 use Rattle.amounts.proofs.Signed.{signed, larger-of, mul_mono, tested}
-use Rattle.refusals.specs.Refusals.{first, None, judge}
+use Rattle.refusals.specs.Refusals.{first, None, judge, accept}
 use Rattle.refusals.proofs.Laws.{numbered, and_left, and_right, none-applies, judge-none, answered-some}
 use Rattle.virtuals.specs.Virtuals.{Side, Supply, no_supply, is_no_supply, is_side_mwh, side_rows, mwh_rows, virtual_bid, virtual_posted, bid_verdict, posted_verdict, PostedOf, PostingAsksNoMore}
 
@@ -34,6 +34,14 @@ module _ (load supply : Side) where
         record { mwh = and_left (is_side_mwh load.mwh) (is_side_mwh supply.mwh) m; differential = and_left (is_differential load.differential) (is_differential supply.differential) d },
         record { mwh = and_right (is_side_mwh load.mwh) (is_side_mwh supply.mwh) m; differential = and_right (is_differential load.differential) (is_differential supply.differential) d },
       )
+
+  pub bid-accepted : None (side_rows load supply) → bid_verdict load supply ≡ accept (virtual_bid load supply)
+  unfolding bid_verdict
+  bid-accepted h = judge-none (side_rows load supply) (virtual_bid load supply) h
+
+  pub posted-accepted : None (side_rows load supply) → posted_verdict load supply ≡ accept (virtual_posted load supply)
+  unfolding posted_verdict
+  posted-accepted h = judge-none (side_rows load supply) (virtual_posted load supply) h
 
 pub mwh-rows-numbered : (load supply : ℕ) → numbered (mwh_rows load supply) ≡ true
 unfolding numbered mwh_rows
