@@ -2,13 +2,14 @@
 #![tactic(auto)]
 
 ghost use Rattle.std.specs.Prelude.{◌≡◌, []};
-ghost use Rattle.messages.specs.Plan.{opened_record, plan, planned};
+ghost use Rattle.refusals.specs.Refusals.{verdict_of};
+ghost use Rattle.messages.specs.Plan.{opened_record, plan};
 
 use kinds::{Kind, Stage};
-use messages::types::{Change, Curves, Deed, Message, Opening, Planned, Sides};
-use messages::{answer, stage_refusal, zone_key};
+use messages::types::{Change, Curves, Deed, Message, Opening, Sides};
+use messages::{check_stage, zone_key};
 use records::types::Record;
-use refusals::{Bid, or_else, pick};
+use refusals::{Bid, Refusal, refuse_if};
 
 // The record at stage 1.
 fn opened_record(opening: Opening, bid: Bid) -> Record
@@ -28,104 +29,96 @@ fn opened_record(opening: Opening, bid: Bid) -> Record
     )
 }
 
-pub fn open(opening: Opening, old: Record, mwh: &[u64], prices: &[i64]) -> Planned
-    ensures { result ≡ planned (plan old (Message.Open opening) mwh.now prices.now) }
+pub fn open(
+    opening: Opening,
+    old: Record,
+    mwh: &[u64],
+    prices: &[i64],
+) -> Result<Deed, Refusal>
+    ensures { verdict_of result ≡ plan old (Message.Open opening) mwh.now prices.now }
 {
+    opening.key.check()?;
     let bid = bids::bid(
         opening.key.kind,
         mwh,
         prices,
         opening.differential,
         opening.exempt,
-    );
-    let number = or_else(
-        opening.key.refusal(),
-        or_else(bid.refusal(), pick(!old.is_free(), 10, 0)),
-    );
-    answer(
-        number,
-        Deed::Keyed(Change::Add(opened_record(opening, bid.bid()))),
-    )
+    )?;
+    refuse_if(!old.is_free(), Refusal::AlreadyOpen)?;
+    Ok(Deed::Keyed(Change::Add(opened_record(opening, bid))))
 }
 
-pub fn revise(opening: Opening, old: Record, mwh: &[u64], prices: &[i64]) -> Planned
-    ensures { result ≡ planned (plan old (Message.Revise opening) mwh.now prices.now) }
+pub fn revise(
+    opening: Opening,
+    old: Record,
+    mwh: &[u64],
+    prices: &[i64],
+) -> Result<Deed, Refusal>
+    ensures { verdict_of result ≡ plan old (Message.Revise opening) mwh.now prices.now }
 {
+    opening.key.check()?;
     let bid = bids::bid(
         opening.key.kind,
         mwh,
         prices,
         opening.differential,
         opening.exempt,
-    );
-    let number = or_else(
-        opening.key.refusal(),
-        or_else(bid.refusal(), stage_refusal(old, old.stage == Stage::BID)),
-    );
-    answer(
-        number,
-        Deed::Keyed(Change::Rebid(old.requirement, opened_record(opening, bid.bid()))),
-    )
+    )?;
+    check_stage(old, old.stage == Stage::BID)?;
+    let made = opened_record(opening, bid);
+    Ok(Deed::Keyed(Change::Rebid(old.requirement, made)))
 }
 
 // Of four interval curves (02, order 3).
-pub fn open_curves(curves: Curves, old: Record, mwh: &[u64], prices: &[i64]) -> Planned
-    ensures { result ≡ planned (plan old (Message.OpenCurves curves) mwh.now prices.now) }
+pub fn open_curves(
+    curves: Curves,
+    old: Record,
+    mwh: &[u64],
+    prices: &[i64],
+) -> Result<Deed, Refusal>
+    ensures { verdict_of result ≡ plan old (Message.OpenCurves curves) mwh.now prices.now }
 {
-    let sums = intervals::curves(curves.key.kind, curves.counts, mwh, prices);
-    let number = or_else(
-        curves.key.refusal(),
-        or_else(sums.refusal(), pick(!old.is_free(), 10, 0)),
-    );
-    answer(
-        number,
-        Deed::Keyed(Change::AddPending(Record::pending(curves.key, sums.intervals()))),
-    )
+    curves.key.check()?;
+    let sums = intervals::curves(curves.key.kind, curves.counts, mwh, prices)?;
+    refuse_if(!old.is_free(), Refusal::AlreadyOpen)?;
+    Ok(Deed::Keyed(Change::AddPending(Record::pending(curves.key, sums))))
 }
 
-pub fn revise_curves(curves: Curves, old: Record, mwh: &[u64], prices: &[i64]) -> Planned
-    ensures { result ≡ planned (plan old (Message.ReviseCurves curves) mwh.now prices.now) }
+pub fn revise_curves(
+    curves: Curves,
+    old: Record,
+    mwh: &[u64],
+    prices: &[i64],
+) -> Result<Deed, Refusal>
+    ensures { verdict_of result ≡ plan old (Message.ReviseCurves curves) mwh.now prices.now }
 {
-    let sums = intervals::curves(curves.key.kind, curves.counts, mwh, prices);
-    let number = or_else(
-        curves.key.refusal(),
-        or_else(sums.refusal(), stage_refusal(old, old.stage == Stage::BID)),
-    );
-    answer(
-        number,
-        Deed::Keyed(Change::Rebid(
-            old.requirement,
-            Record::pending(curves.key, sums.intervals()),
-        )),
-    )
+    curves.key.check()?;
+    let sums = intervals::curves(curves.key.kind, curves.counts, mwh, prices)?;
+    check_stage(old, old.stage == Stage::BID)?;
+    let made = Record::pending(curves.key, sums);
+    Ok(Deed::Keyed(Change::Rebid(old.requirement, made)))
 }
 
 // Of two sides (02, order 6).
-pub fn open_sides(sides: Sides, old: Record) -> Planned
-    ensures { result ≡ planned (plan old (Message.OpenSides sides) [] []) }
+pub fn open_sides(sides: Sides, old: Record) -> Result<Deed, Refusal>
+    ensures { verdict_of result ≡ plan old (Message.OpenSides sides) [] [] }
 {
     let key = zone_key(sides.zone, sides.hour);
-    let figure = virtuals::bid(sides.load, sides.supply);
-    let number = or_else(
-        key.refusal(),
-        or_else(figure.refusal(), pick(!old.is_free(), 10, 0)),
-    );
-    let made = Record::sides(key, sides.load, sides.supply, figure.cents());
-    answer(number, Deed::Keyed(Change::Add(made)))
+    key.check()?;
+    let cents = virtuals::bid(sides.load, sides.supply)?;
+    refuse_if(!old.is_free(), Refusal::AlreadyOpen)?;
+    let made = Record::sides(key, sides.load, sides.supply, cents);
+    Ok(Deed::Keyed(Change::Add(made)))
 }
 
-pub fn revise_sides(sides: Sides, old: Record) -> Planned
-    ensures { result ≡ planned (plan old (Message.ReviseSides sides) [] []) }
+pub fn revise_sides(sides: Sides, old: Record) -> Result<Deed, Refusal>
+    ensures { verdict_of result ≡ plan old (Message.ReviseSides sides) [] [] }
 {
     let key = zone_key(sides.zone, sides.hour);
-    let figure = virtuals::bid(sides.load, sides.supply);
-    let number = or_else(
-        key.refusal(),
-        or_else(
-            figure.refusal(),
-            stage_refusal(old, old.stage == Stage::BID),
-        ),
-    );
-    let made = Record::sides(key, sides.load, sides.supply, figure.cents());
-    answer(number, Deed::Keyed(Change::Rebid(old.requirement, made)))
+    key.check()?;
+    let cents = virtuals::bid(sides.load, sides.supply)?;
+    check_stage(old, old.stage == Stage::BID)?;
+    let made = Record::sides(key, sides.load, sides.supply, cents);
+    Ok(Deed::Keyed(Change::Rebid(old.requirement, made)))
 }

@@ -273,3 +273,13 @@ pub row_answered : (r : Result (Unit {0}) Refusal) (e : Refusal) (t : Bool) → 
 unfolding judge answered first
 row_answered (Ok u) e t h = rw h
 row_answered (Err f) e t h = rw (h.0, h.1, not-true _ (numbered-refusal e))
+
+-- the last row, of an answer that is more than a test
+module _ {X : Type 0} where
+  pub row_refused : (e : Refusal) (f : Refusal) (t : Bool) (x : X) → (t ≡ true) × (f ≡ e) → ◌≡◌ {A = Verdict X} (refuse (number_of f)) (judge (row (number_of e) t ∷ []) x)
+  unfolding judge answered first
+  row_refused e f t x h = rw (h.0, h.1, not-true _ (numbered-refusal e))
+
+  pub row_accepted : (n : ℕ) (t : Bool) (x : X) → t ≡ false → ◌≡◌ {A = Verdict X} (accept x) (judge (row n t ∷ []) x)
+  unfolding judge answered first
+  row_accepted n t x h = rw h

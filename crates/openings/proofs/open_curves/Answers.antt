@@ -1,26 +1,40 @@
--- `open_curves`: its table is the key's rows over the curves' and row 10; what it asks for is the record of the four sums.
-use mathlib.Core.Path.{ap}
-use Prim.Native.Nat.{ℕ}
-use Rattle.refusals.specs.Refusals.{judge, answered}
-use Rattle.messages.specs.declared.types.Message.TheVariants.{OpenCurves}
-use Rattle.messages.specs.Plan.{intervals_for, plan, deed_for, planned}
-use Rattle.messages.proofs.Tables.{open-curves-table}
+-- `open_curves`: the key's rows, the curves's, row 10; then the record at stage 1.
+use mathlib.Core.Path.{◌∙◌, sym, ap}
+use mathlib.Core.List.{[]}
+use Rattle.std.proofs.Common.{rules}
+use Rattle.amounts.proofs.Steps.{back}
+use Rattle.refusals.proofs.Laws.{handed_on, row_refused, row_accepted}
+use Rattle.refusals.specs.declared.Refusal.TheVariants.{AlreadyOpen}
+use Rattle.intervals.specs.Intervals.{intervals_in}
+use Rattle.messages.specs.Plan.{intervals_for, plan}
+use Rattle.messages.proofs.Tables.{key_refused, key_passed, curves_refused, curves_passed}
 use Rattle.openings.proofs.open_curves.Goals as goal
 
+pub returns-in_err-check : goal.returns-in_err-check
+unfolding plan
+returns-in_err-check c =
+    let a = c.args in
+    handed_on _ c.in_err-check.field-0.0 (search rules) ∙ key_refused _ _ _ a.curves.key c.in_err-check.ensures
+
+pub returns-in_err-sums : goal.returns-in_err-sums
+unfolding plan
+returns-in_err-sums c =
+    let a = c.args in
+    handed_on _ c.in_err-sums.field-0.0 (search rules) ∙ curves_refused _ _ _ a.curves a.mwh.now a.prices.now c.in_ok-check.ensures c.in_err-sums.ensures ∙ key_passed _ _ a.curves.key c.in_ok-check.ensures
+
+pub returns-in_err-refuse_if : goal.returns-in_err-refuse_if
+unfolding plan
+returns-in_err-refuse_if c =
+    let a = c.args in
+    handed_on _ c.in_err-refuse_if.field-0.0 (search rules) ∙ row_refused AlreadyOpen _ _ _ (rw (c.is_free.ensures) at c.in_err-refuse_if.ensures)
+    ∙ curves_passed _ _ a.curves a.mwh.now a.prices.now _ c.in_ok-check.ensures c.in_ok-sums.ensures
+    ∙ key_passed _ _ a.curves.key c.in_ok-check.ensures
+
 pub returns : goal.returns
-unfolding plan judge intervals_for
+unfolding plan intervals_for
 returns c =
     let a = c.args in
-    rw (
-      c.answer.ensures,
-      c.pending.ensures,
-      c.intervals.ensures,
-      c.or_else-number.ensures,
-      c.or_else.ensures,
-      c.pick.ensures,
-      c.is_free.ensures,
-      c.refusal-2.ensures,
-      c.refusal.ensures,
-      c.curves-sums.ensures,
-    )
-    (ap (λ (n : ℕ). planned (answered n (deed_for a.old (OpenCurves a.curves) a.mwh.now a.prices.now))) (open-curves-table a.old a.curves a.mwh.now a.prices.now))
+    rw (c.pending.ensures, ap intervals_in c.in_ok-sums.ensures)
+    (row_accepted 10 _ _ (rw (c.is_free.ensures) at c.in_ok-refuse_if.ensures)
+    ∙ curves_passed _ _ a.curves a.mwh.now a.prices.now _ c.in_ok-check.ensures c.in_ok-sums.ensures
+    ∙ key_passed _ _ a.curves.key c.in_ok-check.ensures)

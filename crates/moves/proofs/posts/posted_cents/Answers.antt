@@ -1,7 +1,7 @@
 -- `posted_cents` is the library's amount, at the record's fields.
 use mathlib.Core.Path.{ap, ◌∙◌}
 use Rattle.amounts.proofs.Steps.{back}
-use Rattle.refusals.specs.Figures.{cents_of, figure}
+use Rattle.refusals.specs.Figures.{cents_of}
 use Rattle.formulas.specs.Entries.{posted_verdict}
 use Rattle.messages.specs.Plan.{posted_for}
 use Rattle.moves.proofs.posts.posted_cents.Goals as goal
@@ -13,6 +13,6 @@ returns c =
     let p = c.args.posting in
     let price = back p.price c.struct_told-1.given.1.1.0.1 in
     let second = back p.second c.struct_told-2-1.given.1.1.1.0.1 in
-    back c.cents.result c.cents.type_inv ∙ c.cents.ensures
+    back c.cents_or_zero.result c.cents_or_zero.type_inv ∙ c.cents_or_zero.ensures
     ∙ ap cents_of c.posted.ensures
-    ∙ (λ i. cents_of (figure (posted_verdict old.key.kind old.differential old.exempt p.schedule (price i) (second i))))
+    ∙ (λ i. cents_of (posted_verdict old.key.kind old.differential old.exempt p.schedule (price i) (second i)))

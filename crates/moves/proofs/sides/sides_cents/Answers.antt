@@ -7,4 +7,4 @@ use Rattle.moves.proofs.sides.sides_cents.Goals as goal
 
 pub returns : goal.returns
 unfolding sides_posted_for
-returns c = back c.cents.result c.cents.type_inv ∙ c.cents.ensures ∙ ap cents_of c.posted.ensures
+returns c = back c.cents_or_zero.result c.cents_or_zero.type_inv ∙ c.cents_or_zero.ensures ∙ ap cents_of c.posted.ensures
