@@ -12,14 +12,14 @@ use lib.IntN.{ℤ, pos, ◌+ℤ◌, +ℤ_idr}
 use lib.ListN.{length, get_or}
 use Rattle.amounts.proofs.Signed.{tested}
 use Rattle.distinct.specs.Numbers.{stands_in}
-use Rattle.refusals.specs.Refusals.{first}
-use Rattle.refusals.specs.Figures.{figure, cents_of}
-use Rattle.refusals.proofs.Laws.{none-applies}
+use Rattle.refusals.specs.Refusals.{judge, first}
+use Rattle.refusals.specs.Figures.{cents_of}
+use Rattle.refusals.proofs.Laws.{none-applies, answered-some}
 use Rattle.keys.proofs.Laws.{key-bounds}
-use Rattle.closings.specs.Closings.{place_of, quote_at, closed_rows, closed_verdict}
+use Rattle.closings.specs.Closings.{place_of, quote_at, closed_rows, closed_requirement, closed_verdict}
 use Rattle.closings.specs.Listing.{Lists}
 use Rattle.closings.proofs.Listing.{entry_listed, entry-some}
-use Rattle.closings.proofs.Laws.{closed-rows-numbered, closed_is, closed-refused, requirement-unlisted}
+use Rattle.closings.proofs.Laws.{closed-rows-numbered, closed_is, requirement-unlisted}
 use Rattle.records.specs.declared.types.Record.{Record}
 use Rattle.records.specs.Records.{is_blank, is_pending, ok_record, ok_place}
 use Rattle.records.proofs.Clauses.{either, clauses}
@@ -53,22 +53,22 @@ module _ (paths table : List ℕ) (prices : List ℤ) (r : Record) (ok : ok_plac
 
   -- whatever the sums: the prices are 0, and a refusal answers 0
   unlisted : stands_in path paths ≡ false → closed_for paths prices r ≡ pos 0
-  unfolding closed_for
+  unfolding closed_for closed_verdict judge
   unlisted out =
       let s = r.intervals in
       let q = quote_at (place_of path paths) prices in
       let n = first (closed_rows s q) in
       tested (eqb n 0)
       (λ e. closed_is s q (none-applies (closed_rows s q) (closed-rows-numbered s q) (eqb-true n 0 e)) ∙ requirement-unlisted s path paths prices four out)
-      (λ e. ap cents_of (closed-refused s q (eqb-false n 0 e)))
+      (λ e. ap cents_of (answered-some n (closed_requirement s q) (eqb-false n 0 e)))
 
   pub entry-nothing : entry ≡ 0 → pos 0 ≡ closed_for paths prices r
   entry-nothing e = sym (unlisted (sym listed-is ∙ ap (λ (n : ℕ). not (eqb n 0)) e))
 
-  pub entry-cents : (entry ≡ 0 → ⊥) → cents_of (figure (closed_verdict r.intervals (quote_at (entry - 1) prices))) ≡ closed_for paths prices r
+  pub entry-cents : (entry ≡ 0 → ⊥) → cents_of (closed_verdict r.intervals (quote_at (entry - 1) prices)) ≡ closed_for paths prices r
   unfolding closed_for
   entry-cents some =
-      ap (λ (n : ℕ). cents_of (figure (closed_verdict r.intervals (quote_at n prices))))
+      ap (λ (n : ℕ). cents_of (closed_verdict r.intervals (quote_at n prices)))
       (ap (λ (n : ℕ). n - 1) at_path ∙ entry-some paths table l path (path-low r ok) (λ z. some (at_path ∙ z)))
 
 -- ---- one place more

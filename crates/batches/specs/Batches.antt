@@ -5,7 +5,7 @@ use Rattle.std.specs.Int.Signed.{lt_z}
 use Rattle.amounts.specs.Lists.{total, every}
 use Rattle.distinct.specs.Numbers.{stands_in}
 use Rattle.refusals.specs.Refusals.{Row, row}
-use Rattle.refusals.specs.Figures.{figure, cents_of}
+use Rattle.refusals.specs.Figures.{cents_of}
 use Rattle.kinds.specs.Kinds.{posted_stage}
 use Rattle.closings.specs.Closings.{place_of, quote_at, closed_verdict}
 use Rattle.records.specs.declared.types.Record.{Record}
@@ -38,7 +38,7 @@ batch_rows hour paths places = row 11 (unmatched hour paths places) ∷ []
 
 -- what a bid requires at its path's prices, by the library's answer
 unfoldable pub closed_for : List ℕ → List ℤ → Record → ℤ
-closed_for paths prices r = cents_of (figure (closed_verdict r.intervals (quote_at (place_of r.key.path paths) prices)))
+closed_for paths prices r = cents_of (closed_verdict r.intervals (quote_at (place_of r.key.path paths) prices))
 
 -- 'the batch's summed requirement'
 abbrev pub brings : ℕ → List ℕ → List ℤ → Record → ℤ

@@ -9,6 +9,7 @@ ghost use Rattle.batches.specs.Closing.{nothing, more, Light};
 use crate::types::Batch;
 use kinds::Stage;
 use records::types::Record;
+use refusals::cents_or_zero;
 
 // What a bid requires at its path's prices; 0 where its path is not listed.
 fn closed_cents(r: Record, paths: &[u64], places: &[u64; 1_024], prices: &[i64]) -> i64
@@ -21,7 +22,7 @@ fn closed_cents(r: Record, paths: &[u64], places: &[u64; 1_024], prices: &[i64])
     if place == 0 {
         return 0;
     }
-    closings::closed(r.intervals, closings::quote_at(place - 1, prices)).cents()
+    cents_or_zero(closings::closed(r.intervals, closings::quote_at(place - 1, prices)))
 }
 
 impl Batch {

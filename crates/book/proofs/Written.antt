@@ -13,21 +13,21 @@ use lib.Seq.{set_out}
 use Rattle.amounts.specs.Lists.{total}
 use Rattle.amounts.specs.Amount.{Within}
 use Rattle.amounts.proofs.Signed.{signed, sum_of, difference-of}
-use Rattle.refusals.specs.Refusals.{None, first, Verdict, refuse, accept, answered, judge}
+use Rattle.refusals.specs.Refusals.{verdict_of, None, first, Verdict, refuse, accept, answered, judge}
 use Rattle.refusals.proofs.Laws.{judge-accept}
 use Rattle.messages.specs.declared.types.Message.{Message}
 use Rattle.messages.specs.declared.types.Change.{Change}
 use Rattle.messages.specs.declared.types.Change.TheVariants.{Add, Rebid, Advance, Remove, AddPending}
 use Rattle.messages.specs.declared.types.Deed.{Deed}
 use Rattle.messages.specs.declared.types.Deed.TheVariants.{Keyed, SetSupport, CloseHour}
-use Rattle.messages.specs.declared.types.Planned.{Planned}
-use Rattle.messages.specs.declared.types.Planned.TheVariants.{Refused as Turned, Asks}
+use Rattle.std.specs.Prelude.{Result, Ok, Err}
+use Rattle.refusals.specs.declared.Refusal.{Refusal}
 use Rattle.keys.specs.declared.Key.{Key}
 use Rattle.records.specs.declared.types.Record.{Record}
 use Rattle.records.specs.Records.{blank, is_free, at, ok_place}
 use Rattle.records.proofs.Places.{ok-place, ok-blank}
 use Rattle.records.proofs.Bounds.{requirement-bounded}
-use Rattle.messages.specs.Plan.{key_of, deed_for, plan_rows, plan, planned}
+use Rattle.messages.specs.Plan.{key_of, deed_for, plan_rows, plan}
 use Rattle.messages.proofs.Fits.{Fits, fits, plan-rows-numbered}
 use Rattle.closings.specs.Closings.{close_rows}
 use Rattle.batches.specs.Batches.{batch_rows}
@@ -45,7 +45,7 @@ use Rattle.refusals.specs.declared.Answer.TheVariants.{Accepted, Refused}
 use Rattle.book.specs.Step.{Outcome, change, rebook, done, answer_to, outcome, step}
 use Rattle.endings.specs.declared.types.View.{View}
 use Rattle.endings.specs.declared.types.Ending.{Ending}
-use Rattle.endings.specs.Endings.{DeedSound, PlanSound, Summable, totals_of, as_verdict, credit_verdict, pass, unsound, turned_away, put_in, carried_out, ending_of, ended}
+use Rattle.endings.specs.Endings.{DeedSound, PlanSound, Summable, totals_of, credit_verdict, pass, unsound, turned_away, put_in, carried_out, ending_of, ended}
 use Rattle.book.proofs.Passed.{index, swap-set, missing-index}
 use Rattle.walk.proofs.Sums.{sums-within}
 use Rattle.book.proofs.Sums.{held_by}
@@ -80,10 +80,6 @@ written b e = record { book = record { records = set b.records e.place e.new; ac
 beyond : 1000000 ≤ 999999 → ⊥
 beyond h = omega arith
 
-as-planned : (v : Verdict Deed) → as_verdict (planned v) ≡ v
-as-planned (refuse n) = refl
-as-planned (accept d) = refl
-
 moved-over : (x y a c : ℤ) → y +ℤ a ≡ x +ℤ c → (x -ℤ a) +ℤ c ≡ y
 moved-over x y a c e = omega (arith, signed, sum_of (x -ℤ a) c, difference-of x a, sum_of y a, sum_of x c)
 
@@ -94,7 +90,7 @@ unsound-step b m ms ps h = ap (outcome b ms ps) (verdict-is b m ms ps) ∙ rw h 
 
 module _ (b : Book) (m : Message) (ms : List ℕ) (ps : List ℤ) (s : View) (few : length b.records ≡ 256) (account-so : s.account ≡ b.account)
     (sound-so : s.sound ≡ sound b) (walk : Sees b (key_of m) s)
-    (p : Planned) (planned-so : p ≡ planned (plan (lookup b (key_of m)) m ms ps)) where
+    (p : Result Deed Refusal) (planned-so : verdict_of p ≡ plan (lookup b (key_of m)) m ms ps) where
   abbrev rs : List Record
   rs = b.records
 
@@ -109,9 +105,9 @@ module _ (b : Book) (m : Message) (ms : List ℕ) (ps : List ℤ) (s : View) (fe
   unfolding outcome concluded held_answered owed_answered unsound
   ends-unsound h v = rw h (rw h (λ i. record { book = record { records = untouched i; account = account-so i }; answer = Refused 1 (pos 0) (pos 0) }))
 
-  unsound-is : sound b ≡ false → ended s (as_verdict p) ≡ unsound s
+  unsound-is : sound b ≡ false → ended s (verdict_of p) ≡ unsound s
   unfolding ended
-  unsound-is h = ap (λ (t : Bool). cond t (ending_of s (pass (totals_of s) (as_verdict p))) (unsound s)) (sound-so ∙ h)
+  unsound-is h = ap (λ (t : Bool). cond t (ending_of s (pass (totals_of s) (verdict_of p))) (unsound s)) (sound-so ∙ h)
 
   module _ (h : sound b ≡ true) where
     -- held and net owed, as they are kept
@@ -203,15 +199,15 @@ module _ (b : Book) (m : Message) (ms : List ℕ) (ps : List ℤ) (s : View) (fe
         let f = fits old m ms ps d (lookup-under b (key_of m) h) e in
         ends-rows d f (credit_verdict (totals b) d) refl q ∙ ap (outcome b ms ps) (sym (rows_of d f q))
 
-    planned-is : as_verdict p ≡ plan old m ms ps
-    planned-is = ap as_verdict planned-so ∙ as-planned (plan old m ms ps)
+    planned-is : verdict_of p ≡ plan old m ms ps
+    planned-is = planned-so
 
-    ended_is : ended s (as_verdict p) ≡ ending_of s (pass (totals b) (plan old m ms ps))
+    ended_is : ended s (verdict_of p) ≡ ending_of s (pass (totals b) (plan old m ms ps))
     unfolding ended
     ended_is =
-        ap (λ (t : Bool). cond t (ending_of s (pass (totals_of s) (as_verdict p))) (unsound s)) (sound-so ∙ h) ∙ (λ i. ending_of s (pass (totals-so i) (planned-is i)))
+        ap (λ (t : Bool). cond t (ending_of s (pass (totals_of s) (verdict_of p))) (unsound s)) (sound-so ∙ h) ∙ (λ i. ending_of s (pass (totals-so i) (planned-is i)))
 
-    ends-sound : ((ended s (as_verdict p)).hour ≤ 999999 → ⊥) → written b (ended s (as_verdict p)) ≡ outcome b ms ps (concluded b ms (plan old m ms ps))
+    ends-sound : ((ended s (verdict_of p)).hour ≤ 999999 → ⊥) → written b (ended s (verdict_of p)) ≡ outcome b ms ps (concluded b ms (plan old m ms ps))
     unfolding concluded
     ends-sound q =
         ap (written b) ended_is
@@ -242,7 +238,7 @@ module _ (b : Book) (m : Message) (ms : List ℕ) (ps : List ℤ) (s : View) (fe
     hour-passed (refuse n) q = absurd (beyond q)
     hour-passed (accept d) q = ap accept (hour-rows d (credit_verdict (totals b) d) refl q)
 
-    left-sound : (ended s (as_verdict p)).hour ≤ 999999 → plan old m ms ps ≡ accept (CloseHour (ended s (as_verdict p)).hour)
+    left-sound : (ended s (verdict_of p)).hour ≤ 999999 → plan old m ms ps ≡ accept (CloseHour (ended s (verdict_of p)).hour)
     left-sound q =
         hour-passed (plan old m ms ps) (subst (λ (e : Ending). e.hour ≤ 999999) ended_is q) ∙ ap (λ (e : Ending). accept (CloseHour e.hour)) (sym ended_is)
 
@@ -259,18 +255,18 @@ module _ (b : Book) (m : Message) (ms : List ℕ) (ps : List ℤ) (s : View) (fe
     fair (SetSupport z) f = tt
     fair (CloseHour hour) f = tt
 
-    plan-sound : (x : Planned) → p ≡ x → PlanSound x
-    plan-sound (Turned n) e = tt
-    plan-sound (Asks d) e = fair d (fits old m ms ps d (lookup-under b (key_of m) h) (sym planned-is ∙ ap as_verdict e))
+    plan-sound : (x : Result Deed Refusal) → p ≡ x → PlanSound x
+    plan-sound (Err e') e = tt
+    plan-sound (Ok d) e = fair d (fits old m ms ps d (lookup-under b (key_of m) h) (sym planned-is ∙ ap (verdict_of {X = Deed}) e))
 
   -- an ending, written, is the step, but for a batch
-  ends_by : (t : Bool) → sound b ≡ t → ((ended s (as_verdict p)).hour ≤ 999999 → ⊥) → written b (ended s (as_verdict p)) ≡ outcome b ms ps (concluded b ms (plan old m ms ps))
+  ends_by : (t : Bool) → sound b ≡ t → ((ended s (verdict_of p)).hour ≤ 999999 → ⊥) → written b (ended s (verdict_of p)) ≡ outcome b ms ps (concluded b ms (plan old m ms ps))
   unfolding ended
   ends_by true h q = ends-sound h q
   ends_by false h q =
-      ap (λ (t : Bool). written b (cond t (ending_of s (pass (totals_of s) (as_verdict p))) (unsound s))) (sound-so ∙ h) ∙ ends-unsound h (plan old m ms ps)
+      ap (λ (t : Bool). written b (cond t (ending_of s (pass (totals_of s) (verdict_of p))) (unsound s))) (sound-so ∙ h) ∙ ends-unsound h (plan old m ms ps)
 
-  pub ends : ((ended s (as_verdict p)).hour ≤ 999999 → ⊥) → written b (ended s (as_verdict p)) ≡ step b m ms ps
+  pub ends : ((ended s (verdict_of p)).hour ≤ 999999 → ⊥) → written b (ended s (verdict_of p)) ≡ step b m ms ps
   unfolding step
   ends q = ends_by (sound b) refl q ∙ ap (outcome b ms ps) (sym (verdict-is b m ms ps))
 
@@ -286,13 +282,13 @@ module _ (b : Book) (m : Message) (ms : List ℕ) (ps : List ℤ) (s : View) (fe
       let passed = (judge-accept (plan_rows old m ms ps) (deed_for old m ms ps) (CloseHour hour) (plan-rows-numbered old m ms ps) e).0 in
       subst (λ (x : Message). None (plan_rows old x ms ps)) (fits old m ms ps (CloseHour hour) (lookup-under b (key_of m) h) e).is passed
 
-  left_by : (t : Bool) → sound b ≡ t → (ended s (as_verdict p)).hour ≤ 999999 → Left (ended s (as_verdict p)).hour
+  left_by : (t : Bool) → sound b ≡ t → (ended s (verdict_of p)).hour ≤ 999999 → Left (ended s (verdict_of p)).hour
   unfolding step concluded admitted unsound
   left_by true h q =
       let e = left-sound h q in
       record {
         sane = h;
-        passed = close-rows (ended s (as_verdict p)).hour e h;
+        passed = close-rows (ended s (verdict_of p)).hour e h;
         goes =
             ap (outcome b ms ps) (verdict-is b m ms ps)
             ∙ ap (λ (t : Bool). outcome b ms ps (cond t (admitted b ms (plan old m ms ps)) (refuse 1))) h
@@ -300,7 +296,7 @@ module _ (b : Book) (m : Message) (ms : List ℕ) (ps : List ℤ) (s : View) (fe
       }
   left_by false h q = absurd (beyond (subst (λ (e : Ending). e.hour ≤ 999999) (unsound-is h) q))
 
-  pub left : (ended s (as_verdict p)).hour ≤ 999999 → Left (ended s (as_verdict p)).hour
+  pub left : (ended s (verdict_of p)).hour ≤ 999999 → Left (ended s (verdict_of p)).hour
   left q = left_by (sound b) refl q
 
   pub summable : s.sound ≡ true → Summable s p

@@ -2,13 +2,13 @@
 ghost use Rattle.std.specs.Prelude.{◌≡◌, ◌&&◌, ◌+ℤ◌, ◌-ℤ◌};
 ghost use Rattle.std.specs.Int.Signed.{lt_z};
 ghost use Rattle.amounts.specs.Amount.{Within};
-ghost use Rattle.refusals.specs.Refusals.{first};
+ghost use Rattle.refusals.specs.Refusals.{judge, verdict_of};
 ghost use Rattle.credit.specs.Credit.{reaches_half, suspended, credit_rows};
 ghost use Rattle.credit.specs.NoOverflow.{TotalsBounded, DeedBounded};
 
 use crate::types::{Account, Totals};
 use messages::types::{Change, Deed};
-use refusals::pick;
+use refusals::{Refusal, refuse_if};
 
 // 2 x net owed is at least the support, whatever the two are: where 2 x net owed leaves an i64, net owed alone decides.
 pub(crate) fn reaches_half(support: i64, owed: i64) -> bool
@@ -49,38 +49,42 @@ impl Totals {
         (was < requirement) & (self.support < self.held - was + requirement)
     }
 
-    fn change_refusal(self, change: Change) -> u64
+    #[tactic(auto, unfolding(refusals::specs::Refusals::judge, refusals::specs::Refusals::answered, refusals::specs::Refusals::first))]
+    fn check_change(self, change: Change) -> Result<(), Refusal>
         requires totals_bounded { TotalsBounded self }
         requires deed_bounded { DeedBounded (Deed.Keyed change) }
-        ensures { result ≡ first (credit_rows self (Deed.Keyed change)) }
+        ensures { verdict_of result ≡ judge (credit_rows self (Deed.Keyed change)) tt }
     {
         match change {
-            Change::Add(r) => pick(
-                self.is_suspended(),
-                14,
-                pick(self.full, 15, pick(self.is_above(r.requirement), 16, 0)),
-            ),
-            Change::Rebid(was, r) => pick(
-                self.is_suspended(),
-                14,
-                pick(self.is_above_after(was, r.requirement), 16, 0),
-            ),
-            Change::Advance(_) => 0,
-            Change::Remove(_) => 0,
+            Change::Add(r) => {
+                refuse_if(self.is_suspended(), Refusal::Suspended)?;
+                refuse_if(self.full, Refusal::Full)?;
+                refuse_if(self.is_above(r.requirement), Refusal::AboveSupport)
+            }
+            Change::Rebid(was, r) => {
+                refuse_if(self.is_suspended(), Refusal::Suspended)?;
+                refuse_if(self.is_above_after(was, r.requirement), Refusal::AboveSupport)
+            }
+            Change::Advance(_) => Ok(()),
+            Change::Remove(_) => Ok(()),
             // Its credit is not checked.
-            Change::AddPending(_) => pick(self.is_suspended(), 14, pick(self.full, 15, 0)),
+            Change::AddPending(_) => {
+                refuse_if(self.is_suspended(), Refusal::Suspended)?;
+                refuse_if(self.full, Refusal::Full)
+            }
         }
     }
 
-    pub fn refusal(self, deed: Deed) -> u64
+    #[tactic(auto, unfolding(refusals::specs::Refusals::judge, refusals::specs::Refusals::answered, refusals::specs::Refusals::first))]
+    pub fn check(self, deed: Deed) -> Result<(), Refusal>
         requires totals_bounded { TotalsBounded self }
         requires deed_bounded { DeedBounded deed }
-        ensures { result ≡ first (credit_rows self deed) }
+        ensures { verdict_of result ≡ judge (credit_rows self deed) tt }
     {
         match deed {
-            Deed::Keyed(change) => self.change_refusal(change),
-            Deed::SetSupport(_) => 0,
-            Deed::CloseHour(_) => 0,
+            Deed::Keyed(change) => self.check_change(change),
+            Deed::SetSupport(_) => Ok(()),
+            Deed::CloseHour(_) => Ok(()),
         }
     }
 }

@@ -2,12 +2,14 @@
 #![tactic(auto)]
 
 ghost use Rattle.std.specs.Prelude.{◌≡◌};
-ghost use Rattle.messages.specs.Plan.{key_of, plan, planned};
+ghost use Rattle.refusals.specs.Refusals.{verdict_of};
+ghost use Rattle.messages.specs.Plan.{key_of, plan};
 
 use keys::Key;
-use messages::types::{Message, Planned};
+use messages::types::{Deed, Message};
 use messages::zone_key;
 use records::types::Record;
+use refusals::Refusal;
 
 // A support change and a close have no key; that of a free place stands for it, and no record is under it.
 pub fn key_of(message: Message) -> Key
@@ -31,8 +33,13 @@ pub fn key_of(message: Message) -> Key
     }
 }
 
-pub fn plan_of(message: Message, old: Record, mwh: &[u64], prices: &[i64]) -> Planned
-    ensures { result ≡ planned (plan old message mwh.now prices.now) }
+pub fn plan_of(
+    message: Message,
+    old: Record,
+    mwh: &[u64],
+    prices: &[i64],
+) -> Result<Deed, Refusal>
+    ensures { verdict_of result ≡ plan old message mwh.now prices.now }
 {
     match message {
         Message::Open(opening) => openings::open(opening, old, mwh, prices),

@@ -1,6 +1,6 @@
 -- For the code's own steps alone: how a message ends, over what it sees of a book and nothing more. Nothing here is the paper's: crate `book`, proofs/Written.antt, shows that it is the step.
 -- Assumes nothing.
-use Rattle.std.specs.Prelude.{◌≡◌, true, ◌&&◌, cond, List, ℕ, eqb, ℤ, pos}
+use Rattle.std.specs.Prelude.{Result, Ok, Err, ◌≡◌, true, ◌&&◌, cond, List, ℕ, eqb, ℤ, pos}
 use Rattle.amounts.specs.Amount.{Within}
 use Rattle.amounts.specs.Limits.{is_support}
 use Rattle.distinct.specs.Numbers.{all_distinct}
@@ -8,8 +8,7 @@ use Rattle.refusals.specs.Refusals.{Verdict, refuse, accept, judge}
 use Rattle.messages.specs.declared.types.Change.TheVariants.{Add, Rebid, Advance, Remove, AddPending}
 use Rattle.messages.specs.declared.types.Deed.{Deed}
 use Rattle.messages.specs.declared.types.Deed.TheVariants.{Keyed, SetSupport, CloseHour}
-use Rattle.messages.specs.declared.types.Planned.{Planned}
-use Rattle.messages.specs.declared.types.Planned.TheVariants.{Refused as Turned, Asks}
+use Rattle.refusals.specs.declared.Refusal.{Refusal}
 use Rattle.records.specs.declared.types.Record.{Record}
 use Rattle.records.specs.Records.{blank, ok_place}
 use Rattle.walk.specs.declared.types.Walk.{Walk}
@@ -54,22 +53,18 @@ DeedSound (Keyed (AddPending r)) = ok_place r ≡ true
 DeedSound (SetSupport support) = Unit {0}
 DeedSound (CloseHour hour) = Unit {0}
 
-abbrev pub PlanSound : Planned → Type 0
-PlanSound (Turned n) = Unit {0}
-PlanSound (Asks d) = DeedSound d
+abbrev pub PlanSound : Result Deed Refusal → Type 0
+PlanSound (Err e) = Unit {0}
+PlanSound (Ok d) = DeedSound d
 
 -- all that an ending adds up is in range
-pub record Summable (s : View) (p : Planned) : Type 0 where
+pub record Summable (s : View) (p : Result Deed Refusal) : Type 0 where
   pub sums : SumsWithin 332800000000000 s.sums
   pub totals : TotalsBounded (totals_of s)
   pub old : ok_place s.old ≡ true
   pub plan : PlanSound p
 
 -- ---- the verdict
-
-abbrev pub as_verdict : Planned → Verdict Deed
-as_verdict (Turned n) = refuse n
-as_verdict (Asks d) = accept d
 
 unfoldable pub credit_verdict : Totals → Deed → Verdict Deed
 credit_verdict t d = judge (credit_rows t d) d

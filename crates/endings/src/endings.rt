@@ -1,16 +1,17 @@
 // All of a message's end but the writing, over what it sees of a book: a function that takes a book copies it.
 ghost use Rattle.std.specs.Prelude.{◌≡◌, true};
+ghost use Rattle.refusals.specs.Refusals.{verdict_of};
 ghost use Rattle.records.specs.Records.{ok_place};
 ghost use Rattle.credit.specs.NoOverflow.{SumsWithin};
-ghost use Rattle.endings.specs.Endings.{Summable, as_verdict, view_of, totals_of, credit_verdict, unwritten, turned_away, unsound, put_in, left_to, carried_out, ending_of, ended};
+ghost use Rattle.endings.specs.Endings.{Summable, view_of, totals_of, credit_verdict, unwritten, turned_away, unsound, put_in, left_to, carried_out, ending_of, ended};
 
 use crate::answers::{accepting, refusing};
 use crate::types::{Ending, View};
 use amounts::Amount;
 use credit::types::{Account, Totals};
-use messages::types::{Change, Deed, Planned};
+use messages::types::{Change, Deed};
 use records::types::Record;
-use refusals::Answer;
+use refusals::{Answer, Refusal};
 use walk::types::Walk;
 
 impl Ending {
@@ -88,7 +89,7 @@ impl View {
     }
 
     fn changed(self, change: Change) -> Ending
-        requires { Summable self (Planned.Asks (Deed.Keyed change)) }
+        requires { Summable self (Ok (Deed.Keyed change)) }
         ensures { result ≡ carried_out self (Deed.Keyed change) }
     {
         match change {
@@ -125,12 +126,11 @@ impl View {
     }
 
     fn carried(self, deed: Deed) -> Ending
-        requires { Summable self (Planned.Asks deed) }
+        requires { Summable self (Ok deed) }
         ensures { result ≡ ending_of self (credit_verdict (totals_of self) deed) }
     {
-        let number = self.totals().refusal(deed);
-        if !(number == 0) {
-            return self.refused(number);
+        if let Err(refusal) = self.totals().check(deed) {
+            return self.refused(refusal.number());
         }
         match deed {
             Deed::Keyed(change) => self.changed(change),
@@ -151,16 +151,16 @@ impl View {
         Ending::unwritten(answer, account)
     }
 
-    pub fn ending(self, plan: Planned) -> Ending
+    pub fn ending(self, plan: Result<Deed, Refusal>) -> Ending
         requires { self.sound ≡ true → Summable self plan }
-        ensures { result ≡ ended self (as_verdict plan) }
+        ensures { result ≡ ended self (verdict_of plan) }
     {
         if !self.sound {
             return self.not_sound();
         }
         match plan {
-            Planned::Refused(number) => self.refused(number),
-            Planned::Asks(deed) => self.carried(deed),
+            Err(refusal) => self.refused(refusal.number()),
+            Ok(deed) => self.carried(deed),
         }
     }
 }

@@ -8,7 +8,6 @@ use crate::types::Walk;
 use credit::types::Sums;
 use keys::Key;
 use records::types::Record;
-use refusals::pick;
 
 impl Walk {
     pub fn nothing() -> Walk
@@ -38,7 +37,7 @@ impl Walk {
         Walk {
             sums: sums.with(r),
             free: self.free,
-            at: pick(r.is_at(key), place, self.at),
+            at: if r.is_at(key) { place } else { self.at },
         }
     }
 

@@ -34,7 +34,7 @@ pub returns : goal.returns
 unfolding plan sides_for
 returns c =
     let a = c.args in
-    rw (c.sides-made.ensures, back c.in_ok-cents.field-0 (search rules), ap cents_of c.in_ok-cents.ensures, c.zone_key-key.ensures)
+    rw (c.sides-made.ensures, back c.in_ok-cents.cents (search rules), ap cents_of c.in_ok-cents.ensures, c.zone_key-key.ensures)
     (row_accepted 10 _ _ (rw (c.is_free.ensures) at c.in_ok-refuse_if.ensures)
     ∙ sides_passed _ _ a.sides _ c.in_ok-cents.ensures
     ∙ key_passed _ _ (zone_key a.sides.zone a.sides.hour) (rw (c.zone_key-key.ensures) at c.in_ok-check.ensures))

@@ -35,7 +35,7 @@ pub returns : goal.returns
 unfolding plan sides_for
 returns c =
     let a = c.args in
-    rw (c.sides-made.ensures, back c.in_ok-cents.field-0 (search rules), ap cents_of c.in_ok-cents.ensures, c.zone_key-key.ensures, back a.old.requirement c.struct_told-1.given.1.1.1.1.1.1.1.0.1)
+    rw (c.sides-made.ensures, back c.in_ok-cents.cents (search rules), ap cents_of c.in_ok-cents.ensures, c.zone_key-key.ensures, back a.old.requirement c.struct_told-1.given.1.1.1.1.1.1.1.0.1)
     (accepted_too (stage_rows a.old (eqb a.old.stage bid_stage)) (tt {0}) _ _ c.in_ok-check_stage.ensures
     ∙ sides_passed _ _ a.sides _ c.in_ok-cents.ensures
     ∙ key_passed _ _ (zone_key a.sides.zone a.sides.hour) (rw (c.zone_key-key.ensures) at c.in_ok-check.ensures))

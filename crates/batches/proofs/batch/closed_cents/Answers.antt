@@ -2,7 +2,7 @@
 use mathlib.Core.Path.{ap, ◌∙◌}
 use native.Mathlib.Omega.{arith}
 use Rattle.amounts.proofs.Steps.{back, known, answer}
-use Rattle.refusals.specs.Figures.{figure, cents_of}
+use Rattle.refusals.specs.Figures.{cents_of}
 use Rattle.closings.specs.declared.types.Quote.{Quote}
 use Rattle.closings.specs.Closings.{closed_verdict}
 use Rattle.batches.proofs.Laws.{closed-for-range}
@@ -20,7 +20,7 @@ returns c =
     let s = c in
     let a = s.args in
     let is =
-    back c.cents.result c.cents.type_inv ∙ c.cents.ensures ∙ ap cents_of c.closed.ensures
-    ∙ ap (λ (q : Quote). cents_of (figure (closed_verdict a.r.intervals q))) c.quote_at.ensures
+    back c.cents_or_zero.result c.cents_or_zero.type_inv ∙ c.cents_or_zero.ensures ∙ ap cents_of c.closed.ensures
+    ∙ ap (λ (q : Quote). cents_of (closed_verdict a.r.intervals q)) c.quote_at.ensures
     ∙ entry-cents a.paths.now a.places.now a.prices.now a.r s.requires.r_value s.requires.lists s.requires.prices_len c.if-place-eq0.false in
     answer (known is (closed-for-range a.paths.now a.prices.now a.r)) tt tt

@@ -12,7 +12,7 @@ use Rattle.keys.specs.declared.Key.{Key}
 use Rattle.records.specs.declared.types.Record.{Record}
 use Rattle.records.specs.Records.{blank, at, ok_place}
 use Rattle.messages.specs.declared.types.Message.{Message}
-use Rattle.messages.specs.Plan.{key_of, plan, planned}
+use Rattle.messages.specs.Plan.{key_of, plan}
 use Rattle.credit.specs.declared.types.Sums.{Sums}
 use Rattle.credit.specs.Account.{keeps_totals}
 use Rattle.credit.specs.Sums.{held_of, keeps_sums}
@@ -20,7 +20,7 @@ use Rattle.book.specs.Books.{Book, lookup, sound, held, owed}
 use Rattle.book.specs.Step.{step}
 use Rattle.endings.specs.declared.types.View.{View}
 use Rattle.endings.specs.declared.types.Ending.{Ending}
-use Rattle.endings.specs.Endings.{view_of, Summable, as_verdict, ended}
+use Rattle.endings.specs.Endings.{view_of, Summable, ended}
 use Rattle.walk.specs.declared.types.Walk.{Walk}
 use Rattle.credit.proofs.Parts.{sums-wider}
 use Rattle.book.proofs.Passed.{index}

@@ -2,10 +2,11 @@
 use borrow.Author.Tests.{not-true, not-false}
 use mathlib.Core.Path.{◌≡◌, ◌∙◌, sym, ap}
 use mathlib.Core.Bool.{Bool, true, false, cond}
-use Rattle.refusals.specs.Refusals.{Verdict, refuse, accept}
+use Rattle.refusals.specs.Refusals.{Verdict, verdict_of, refuse, accept, number_of}
 use Rattle.messages.specs.declared.types.Deed.{Deed}
-use Rattle.messages.specs.declared.types.Planned.{Planned}
-use Rattle.endings.specs.Endings.{View, as_verdict, totals_of, pass, unsound, ending_of, ended}
+use Rattle.refusals.specs.declared.Refusal.{Refusal}
+use Rattle.std.specs.Prelude.{Result}
+use Rattle.endings.specs.Endings.{View, totals_of, pass, unsound, turned_away, ending_of, ended}
 use Rattle.endings.proofs.types.View.ending.Goals as goal
 
 -- by the test of soundness
@@ -21,16 +22,19 @@ module _ (s : View) (v : Verdict Deed) where
 pub returns-then-not-self : goal.returns-then-not-self
 returns-then-not-self c =
     let a = c.args in
-    c.not_sound.ensures ∙ ended-unsound a.self (as_verdict a.plan) (not-true _ c.if-not-self.true)
+    c.not_sound.ensures ∙ ended-unsound a.self (verdict_of a.plan) (not-true _ c.if-not-self.true)
 
-pub returns-in-Refused : goal.returns-in-Refused
+pub returns-in-Err : goal.returns-in-Err
 unfolding ending_of pass
-returns-in-Refused c =
+returns-in-Err c =
     let s = c.args.self in
-    c.refused.ensures ∙ ended-sound s (refuse c.in-Refused.number) (not-false _ c.if-not-self.false) ∙ ap (λ (p : Planned). ended s (as_verdict p)) (sym c.in-Refused.is)
+    c.refused.ensures
+    ∙ ap (turned_away s) c.number.ensures
+    ∙ ended-sound s (refuse (number_of c.in-Err.refusal)) (not-false _ c.if-not-self.false)
+    ∙ ap (λ (p : Result Deed Refusal). ended s (verdict_of p)) (sym c.in-Err.is)
 
-pub returns-in-Asks : goal.returns-in-Asks
+pub returns-in-Ok : goal.returns-in-Ok
 unfolding pass
-returns-in-Asks c =
+returns-in-Ok c =
     let s = c.args.self in
-    c.carried.ensures ∙ ended-sound s (accept c.in-Asks.deed) (not-false _ c.if-not-self.false) ∙ ap (λ (p : Planned). ended s (as_verdict p)) (sym c.in-Asks.is)
+    c.carried.ensures ∙ ended-sound s (accept c.in-Ok.deed) (not-false _ c.if-not-self.false) ∙ ap (λ (p : Result Deed Refusal). ended s (verdict_of p)) (sym c.in-Ok.is)

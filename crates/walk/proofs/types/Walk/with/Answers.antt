@@ -31,13 +31,14 @@ returns-then-is_free c =
     let s = c in
     more-free s.args.self s.args.r s.args.key s.args.place s.requires.r_value (sym c.is_free.ensures ∙ c.if-is_free.true)
 
-pub returns : goal.returns
-returns c =
-    let f = c in
-    let a = f.args in
-    (λ i. record {
-      sums = c.with.ensures i;
-      free = a.self.free;
-      at = (c.pick.ensures ∙ ap (λ (b : Bool). cond b a.place a.self.at) c.is_at.ensures) i;
-    })
-    ∙ more-used a.self a.r a.key a.place (sym f.is_free.ensures ∙ f.if-is_free.false)
+pub returns-then-is_at : goal.returns-then-is_at
+returns-then-is_at c =
+    let a = c.args in
+    (λ i. record { sums = c.with.ensures i; free = a.self.free; at = cond ((sym c.if-is_at.true ∙ c.is_at.ensures) i) a.place a.self.at })
+    ∙ more-used a.self a.r a.key a.place (sym c.is_free.ensures ∙ c.if-is_free.false)
+
+pub returns-else-is_at : goal.returns-else-is_at
+returns-else-is_at c =
+    let a = c.args in
+    (λ i. record { sums = c.with.ensures i; free = a.self.free; at = cond ((sym c.if-is_at.false ∙ c.is_at.ensures) i) a.place a.self.at })
+    ∙ more-used a.self a.r a.key a.place (sym c.is_free.ensures ∙ c.if-is_free.false)
