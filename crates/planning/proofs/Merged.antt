@@ -9,7 +9,7 @@ use lib.IntN.{ℤ}
 use lib.ListN.{length}
 use Rattle.refusals.specs.Refusals.{Row, row, first, Verdict, refuse, accept, judge, answered}
 use Rattle.refusals.specs.declared.Bid.{Bid}
-use Rattle.refusals.specs.Answers.{bid_answer, bid_of}
+use Rattle.refusals.specs.Answers.{bid_of}
 use Rattle.bids.specs.Bids.{bid_mwh, bid_requirement}
 use Rattle.bids.specs.Rows.{bid_rows}
 use Rattle.bids.proofs.Merging.{merged-mwh, merged-requirement, merged-rows, merged-verdict}
@@ -108,7 +108,7 @@ module _ (o : Opening) (two one : List Point) (export : Group o two one) (m : Me
     unfolding bid_for
     same-bid =
         subst₂ (λ (xs ys : List Point). bid_for o (mwhs_of xs) (prices_of xs) ≡ bid_for o (mwhs_of ys) (prices_of ys)) (sym m.two_points) (sym m.one_point)
-        (ap (λ (v : Verdict Bid). bid_of (bid_answer v))
+        (ap bid_of
         (merged-verdict m.mwh m.more m.price m.before m.middle m.after m.left m.right m.others o.key.kind export m.limit short o.differential o.exempt))
 
 pub merged-points : (o : Opening) (two one : List Point) → Merged o two one
