@@ -54,11 +54,7 @@ pub fn all_distinct(codes: &[u64; PLACES]) -> bool
 {
     let mut latest = [0usize; BUCKETS];
     let mut links = [0usize; PLACES];
-    // As a slice, whose length the proof knows.
-    let all = &codes[..];
-    let mut place: usize = 0;
-    while place < all.len() {
-        let code = all[place];
+    for (place, &code) in codes.iter().enumerate() {
         if 0 < code {
             let b = bucket(code);
             let last = latest[b];
@@ -68,7 +64,6 @@ pub fn all_distinct(codes: &[u64; PLACES]) -> bool
             links[place] = last;
             latest[b] = place + 1;
         }
-        place += 1;
     }
     true
 }
