@@ -133,22 +133,24 @@ module _ (codes : List ℕ) (n : ℕ) (held : 0 < get_or codes n 0) where
   walk-starts at l =
       record { before = l.before; holds = l.holds; falls = l.falls; unmet = λ k. passed n at k l }
 
-  pub walk-goes : (at next : ℕ) → 0 < at → Walked codes n at → (get_or codes (at - 1) 0 ≡ get_or codes n 0 → ⊥) → Latest codes (bucket_of (get_or codes (at - 1) 0)) (at - 1) next → Walked codes n next
-  walk-goes at next p w other link =
-      let l : Latest codes (bucket_of (get_or codes n 0)) (at - 1) next = rw (w.falls p) at link in
+  pub walk-goes : (earlier next : ℕ) → Walked codes n (earlier + 1) → (get_or codes earlier 0 ≡ get_or codes n 0 → ⊥) → Latest codes (bucket_of (get_or codes earlier 0)) earlier next → Walked codes n next
+  walk-goes earlier next w other link =
+      let here : earlier + 1 - 1 ≡ earlier = omega arith in
+      let falls : bucket_of (get_or codes earlier 0) ≡ bucket_of (get_or codes n 0) = rw here at (w.falls (omega arith)) in
+      let l : Latest codes (bucket_of (get_or codes n 0)) earlier next = rw falls at link in
       record {
         before = omega (arith, l.before, w.before);
         holds = l.holds;
         falls = l.falls;
         unmet = λ k b a e.
             ⊎_elim
-            (λ (i : k ≡ at - 1). other (rw i at e))
+            (λ (i : k ≡ earlier). other (rw i at e))
             (λ i.
             ⊎_elim
-            (λ (m : k < at - 1). passed (at - 1) next k l m a e)
-            (λ (m : at - 1 ≤ k). w.unmet k b (omega arith) e)
-            (split k (at - 1)))
-            (same k (at - 1));
+            (λ (m : k < earlier). passed earlier next k l m a e)
+            (λ (m : earlier ≤ k). w.unmet k b (omega arith) e)
+            (split k earlier))
+            (same k earlier);
       }
 
 -- ---- the chains of the first n places
