@@ -28,6 +28,7 @@ fn bucket(code: u64) -> usize
 
 // Whether the number at `place` stands before it too: `latest` is the last place before `place` in its bucket, and `links` leads
 // from each place to the one before it there. A chain is an arena of indices, since its memory is fixed: a place fits in a byte.
+#[tactic(auto, using(crate::proofs::Laws::walk_meets))]
 fn met_before(
     codes: &[u64; PLACES],
     links: &[Option<u8>; PLACES],
