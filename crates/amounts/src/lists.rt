@@ -1,4 +1,4 @@
-// The ranges of lists: each loop walks from the end, as the definition recurses.
+// The ranges of lists.
 ghost use Rattle.std.specs.Prelude.{◌≡◌};
 ghost use Rattle.amounts.specs.Limits.{is_point_mwh, is_price};
 ghost use Rattle.amounts.specs.Lists.{every};
@@ -9,23 +9,11 @@ use crate::{Price, Quantity};
 pub fn points_in_range(mwh: &[u64]) -> bool
     ensures { result ≡ every is_point_mwh mwh.now }
 {
-    let mut fit = true;
-    let mut i = mwh.len();
-    while 0 < i {
-        i -= 1;
-        fit = (mwh[i] <= Quantity::MAX_POINT) & fit;
-    }
-    fit
+    mwh.iter().all(|&mwh| mwh <= Quantity::MAX_POINT)
 }
 
 pub fn prices_in_range(prices: &[i64]) -> bool
     ensures { result ≡ every is_price prices.now }
 {
-    let mut fit = true;
-    let mut i = prices.len();
-    while 0 < i {
-        i -= 1;
-        fit = Price { cents: prices[i] }.in_range() & fit;
-    }
-    fit
+    prices.iter().all(|&cents| Price { cents }.in_range())
 }

@@ -2,17 +2,18 @@
 -- Assumes nothing.
 use mathlib.Core.Path.{◌≡◌, refl, sym, ap, subst, ◌∙◌}
 use mathlib.Core.Bool.{Bool, true, false, not, ◌&&◌, ◌||◌}
-use mathlib.Core.List.{List, [], ◌∷◌}
+use mathlib.Core.List.{List, [], ◌∷◌, map}
 use mathlib.Core.Logic.{◌⊎◌, inl, inr, ⊎_elim}
 use Prim.Native.Nat.{ℕ, zero, suc, ◌+◌, ◌-◌, ◌≤◌, ◌<◌}
 use native.Mathlib.Omega.{arith}
 use lib.Dec.{T, eqb, ltb}
-use lib.ListN.{length, get_or, set, replicate, length-set}
+use lib.ListN.{length, get_or, get_or-map, set, replicate, length-set}
+use Rattle.std.proofs.Common.{Option, None, Some}
 use lib.Seq.{get_or-set_same, get_or-set_other}
 use borrow.Author.Count.{below_none, below_more}
 use borrow.Author.Tests.{ltb-true, ltb-false, eqb-true, eqb-false, eq-eqb, ne_eqb}
 use Rattle.distinct.specs.Numbers.{stands_in, all_distinct}
-use Rattle.distinct.specs.Chain.{bucket_of, Latest, Linked, Unmet}
+use Rattle.distinct.specs.Chain.{bucket_of, counted, Latest, Linked, Unmet}
 
 -- ---- tests
 pub never : {X : Type 0} → true ≡ false → X
@@ -133,23 +134,38 @@ module _ (codes : List ℕ) (n : ℕ) (held : 0 < get_or codes n 0) where
   walk-starts at l =
       record { before = l.before; holds = l.holds; falls = l.falls; unmet = λ k. passed n at k l }
 
-  pub walk-goes : (at next : ℕ) → 0 < at → Walked codes n at → (get_or codes (at - 1) 0 ≡ get_or codes n 0 → ⊥) → Latest codes (bucket_of (get_or codes (at - 1) 0)) (at - 1) next → Walked codes n next
-  walk-goes at next p w other link =
-      let l : Latest codes (bucket_of (get_or codes n 0)) (at - 1) next = rw (w.falls p) at link in
-      record {
-        before = omega (arith, l.before, w.before);
-        holds = l.holds;
-        falls = l.falls;
-        unmet = λ k b a e.
-            ⊎_elim
-            (λ (i : k ≡ at - 1). other (rw i at e))
-            (λ i.
-            ⊎_elim
-            (λ (m : k < at - 1). passed (at - 1) next k l m a e)
-            (λ (m : at - 1 ≤ k). w.unmet k b (omega arith) e)
-            (split k (at - 1)))
-            (same k (at - 1));
-      }
+  -- at a place of the chain: it holds n's number, or the walk goes on from its link
+  module _ (at : Option ℕ) (earlier : ℕ) (is : at ≡ Some earlier) (arrived : Walked codes n (counted at)) where
+    walked : Walked codes n (earlier + 1)
+    walked = rw is at arrived
+
+    one-back : earlier + 1 - 1 ≡ earlier
+    one-back = omega arith
+
+    pub walk_meets : get_or codes earlier 0 ≡ get_or codes n 0 → all_distinct codes ≡ false
+    walk_meets e = apart-false codes earlier n (omega (arith, walked.before)) held e
+
+    pub walk_goes : (links : List (Option ℕ)) → Linked codes (map counted links) n → (get_or codes earlier 0 ≡ get_or codes n 0 → ⊥) → Walked codes n (counted (get_or links earlier None))
+    walk_goes links linked other =
+        let w = walked in
+        let holds : 0 < get_or codes earlier 0 = rw one-back at (w.holds (omega arith)) in
+        let falls : bucket_of (get_or codes earlier 0) ≡ bucket_of (get_or codes n 0) = rw one-back at (w.falls (omega arith)) in
+        let link = rw (get_or-map counted links earlier None) at (linked earlier (omega (arith, w.before)) holds) in
+        let l : Latest codes (bucket_of (get_or codes n 0)) earlier (counted (get_or links earlier None)) = rw falls at link in
+        record {
+          before = omega (arith, l.before, w.before);
+          holds = l.holds;
+          falls = l.falls;
+          unmet = λ k b a e.
+              ⊎_elim
+              (λ (i : k ≡ earlier). other (rw i at e))
+              (λ i.
+              ⊎_elim
+              (λ (m : k < earlier). passed earlier _ k l m a e)
+              (λ (m : earlier ≤ k). w.unmet k b (omega arith) e)
+              (split k earlier))
+              (same k earlier);
+        }
 
 -- ---- the chains of the first n places
 pub record Chained (codes latest links : List ℕ) (n : ℕ) : Type 0 where

@@ -1,6 +1,6 @@
 -- Places chained by bucket: what the private functions ask of one another. The public contract cites none of this.
 -- Assumes nothing.
-use Rattle.std.specs.Prelude.{◌≡◌, List, ℕ, ◌*◌, ◌/◌, ◌%◌, ◌-◌, ◌≤◌, ◌<◌, get_or}
+use Rattle.std.specs.Prelude.{◌≡◌, List, Option, None, Some, ℕ, ◌+◌, ◌*◌, ◌/◌, ◌%◌, ◌-◌, ◌≤◌, ◌<◌, get_or}
 
 -- The bucket is below 256, and equal numbers have the same: nothing else is asked of it.
 abbrev pub middle_of : ℕ → ℕ
@@ -8,6 +8,11 @@ middle_of code = code % 4294967296 * 2654435761 / 65536 % 4294967296
 
 abbrev pub bucket_of : ℕ → ℕ
 bucket_of code = middle_of code * middle_of code / 268435456 % 256
+
+-- A place of a chain counted from 1, and 0 for its end.
+abbrev pub counted : Option ℕ → ℕ
+counted None = 0
+counted (Some place) = place + 1
 
 -- Counted from 1, at is the last of the first n places that holds a number of the bucket; 0 for none.
 pub record Latest (codes : List ℕ) (bucket n at : ℕ) : Type 0 where

@@ -4,9 +4,9 @@
 // those of its bucket alone.
 #![tactic(auto)]
 
-ghost use Rattle.std.specs.Prelude.{true, false, ◌≡◌, ◌<◌, get_or};
+ghost use Rattle.std.specs.Prelude.{true, false, ◌≡◌, ◌<◌, map, get_or};
 ghost use Rattle.distinct.specs.Numbers.{all_distinct};
-ghost use Rattle.distinct.specs.Chain.{bucket_of, Latest, Linked, Unmet};
+ghost use Rattle.distinct.specs.Chain.{bucket_of, counted, Latest, Linked, Unmet};
 
 pub const PLACES: usize = 256;
 
@@ -26,20 +26,26 @@ fn bucket(code: u64) -> usize
     (middle * middle / 268_435_456) as usize % BUCKETS
 }
 
-// Whether the number at `place` stands before it too. A chain counts places from 1, and ends at 0: `latest` is the last place
-// before `place` in its bucket, and `links` leads from each place to the one before it there.
-fn met_before(codes: &[u64; PLACES], links: &[usize; PLACES], latest: usize, place: usize) -> bool
+// Whether the number at `place` stands before it too: `latest` is the last place before `place` in its bucket, and `links` leads
+// from each place to the one before it there. A chain is an arena of indices, since its memory is fixed: a place fits in a byte.
+#[tactic(auto, using(crate::proofs::Laws::walk_meets))]
+fn met_before(
+    codes: &[u64; PLACES],
+    links: &[Option<u8>; PLACES],
+    latest: Option<u8>,
+    place: usize,
+) -> bool
     requires place_bound { place < 256 }
     requires nonzero { 0 < get_or codes.now place 0 }
-    requires latest { Latest codes.now (bucket_of (get_or codes.now place 0)) place latest }
-    requires linked { Linked codes.now links.now place }
+    requires latest { Latest codes.now (bucket_of (get_or codes.now place 0)) place (counted latest) }
+    requires linked { Linked codes.now (map counted links.now) place }
     ensures met { result ≡ true → all_distinct codes.now ≡ false }
     ensures unmet { result ≡ false → Unmet codes.now place }
 {
     let code = codes[place];
     let mut at = latest;
-    while 0 < at {
-        let earlier = at - 1;
+    while let Some(earlier) = at {
+        let earlier = earlier as usize;
         if codes[earlier] == code {
             return true;
         }
@@ -52,13 +58,9 @@ fn met_before(codes: &[u64; PLACES], links: &[usize; PLACES], latest: usize, pla
 pub fn all_distinct(codes: &[u64; PLACES]) -> bool
     ensures { result ≡ all_distinct codes.now }
 {
-    let mut latest = [0usize; BUCKETS];
-    let mut links = [0usize; PLACES];
-    // As a slice, whose length the proof knows.
-    let all = &codes[..];
-    let mut place: usize = 0;
-    while place < all.len() {
-        let code = all[place];
+    let mut latest = [None; BUCKETS];
+    let mut links = [None; PLACES];
+    for (place, &code) in codes.iter().enumerate() {
         if 0 < code {
             let b = bucket(code);
             let last = latest[b];
@@ -66,9 +68,8 @@ pub fn all_distinct(codes: &[u64; PLACES]) -> bool
                 return false;
             }
             links[place] = last;
-            latest[b] = place + 1;
+            latest[b] = Some(place as u8);
         }
-        place += 1;
     }
     true
 }

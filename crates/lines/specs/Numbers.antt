@@ -1,6 +1,6 @@
 -- The numbers of a line, which is a list of bytes: what `numbers.rt` reads.
 -- Assumes nothing.
-use Rattle.std.specs.Prelude.{Bool, true, false, not, ◌&&◌, cond, List, [], ◌∷◌, ℕ, ◌+◌, ◌*◌, ◌-◌, ltb, leb, eqb, ℤ, pos, neg_ℤ, length, get_or}
+use Rattle.std.specs.Prelude.{Bool, false, not, ◌&&◌, cond, List, [], ◌∷◌, ℕ, ◌+◌, ◌*◌, ◌-◌, ltb, leb, eqb, ℤ, pos, neg_ℤ, length, get_or}
 use Rattle.amounts.specs.Limits.{between}
 
 abbrev pub most : ℕ
@@ -26,11 +26,6 @@ pub record Number : Type 0 where
 -- A number begins at a digit that follows no other: it is all the digits from there on.
 abbrev pub begins : ℕ → ℕ → Bool
 begins last byte = is_digit byte && not (is_digit last)
-
--- How many begin at a byte, for the code's own steps: one or none.
-abbrev pub bit : Bool → ℕ
-bit true = 1
-bit false = 0
 
 -- The byte before a number tells its sign: '-' is below 0.
 unfoldable pub number_at : ℕ → List ℕ → Number

@@ -1,25 +1,10 @@
--- `points_in_range`: `fit` says whether the numbers passed are in range.
-use mathlib.Core.Path.{sym, ap, ◌∙◌}
-use mathlib.Core.Bool.{Bool, ◌&&◌}
-use Prim.Native.Nat.{◌-◌}
-use native.Mathlib.Omega.{arith}
-use lib.ListN.{get_or}
-use lib.Seq.{drop-length}
-use Rattle.amounts.specs.Lists.{every}
+-- `points_in_range`: what `all` answers is whether each of them is in range.
+use Rattle.std.proofs.Common.{rules, tests}
+use Rattle.std.proofs.lemmas.Iterator.{YieldsList-from_slice}
+use Rattle.std.proofs.lemmas.Iterator.Search.{all_from_yields_List}
 use Rattle.amounts.specs.Limits.{is_point_mwh}
-use Rattle.amounts.proofs.Walks.{drop-back}
+use Rattle.amounts.proofs.Every.{every_from_list_all}
 use Rattle.amounts.proofs.lists.points_in_range.Goals as goal
 
-pub loop-i-init : goal.loop-i-init
-unfolding every
-loop-i-init c = (omega arith, ap (every is_point_mwh) (sym (drop-length c.args.mwh.now)))
-
-pub loop-i-preserved : goal.loop-i-preserved
-unfolding every
-loop-i-preserved c =
-    let at = c in
-    let ms = at.args.mwh.now in (
-      omega arith,
-      ap (λ (b : Bool). is_point_mwh (get_or ms (at.loop-i.i - 1) 0) && b) at.loop-i.invariant.1
-          ∙ ap (every is_point_mwh) (sym (drop-back ms at.loop-i.i 0 (omega arith) (omega arith))),
-    )
+pub returns : goal.returns
+returns c = every_from_list_all is_point_mwh _ (all_from_yields_List is_point_mwh _ _ _ c.all.ensures.ran (YieldsList-from_slice c.args.mwh.now cc) (λ x b q k. search (rules, tests)))

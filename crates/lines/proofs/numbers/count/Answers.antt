@@ -1,25 +1,26 @@
 -- `numbers::count`: those found and those to come are always as many as the line has; none is found before its byte.
-use mathlib.Core.Path.{ap}
+use mathlib.Core.Path.{ap, ◌∙◌}
 use native.Mathlib.Omega.{arith}
 use lib.ListN.{length}
-use Rattle.lines.specs.Numbers.{begins, Number, numbers}
-use Rattle.lines.proofs.Reading.{at_most_one, byte_at, count-on, none_left}
+use Rattle.std.specs.Int.{from_bool}
+use Rattle.lines.specs.Numbers.{Number, numbers}
+use Rattle.lines.proofs.Reading.{at_most_one, count-on, none_left}
 use Rattle.lines.proofs.numbers.count.Goals as goal
 
-pub loop-i-init : goal.loop-i-init
+pub loop-byte-init : goal.loop-byte-init
 unfolding numbers
-loop-i-init c = (omega arith, omega arith)
+loop-byte-init c = (omega arith, omega arith)
 
-pub loop-i-preserved : goal.loop-i-preserved
-loop-i-preserved c =
-    let at = c in
-    let text = at.args.text.now in
-    let one = at_most_one (begins at.loop-i.last (byte_at text at.loop-i.i)) in
-    let on = count-on text at.loop-i.i (omega arith) at.loop-i.last in
-    (omega (arith, c.begun-count.ensures), omega (arith, c.begun-count.ensures, at.loop-i.invariant.1))
+pub loop-byte-preserved : goal.loop-byte-preserved
+loop-byte-preserved c =
+    let at = c.loop-byte in
+    let begun = c.from-count.ensures ∙ ap from_bool c.begins.ensures in (
+      omega (arith, c.from-count.ensures, at_most_one c.begins.result),
+      omega (arith, begun, count-on c.args.text.now at.byte-index (omega arith) at.last),
+    )
 
 pub returns : goal.returns
 returns c =
-    let at = c in
-    let none = none_left at.args.text.now at.loop-i.i (omega arith) at.loop-i.last in
-    omega (arith, at.loop-i.invariant.1, ap (length {A = Number}) none)
+    let text = c.args.text.now in
+    let at = c.loop-byte in
+    omega (arith, ap (length {A = Number}) (none_left text at.byte-index (omega arith) at.last))

@@ -1,31 +1,29 @@
 -- `numbers::find`: the number looked for is always the one with `left` before it in what follows `last`.
 use mathlib.Core.Path.{refl, ◌∙◌}
 use native.Mathlib.Omega.{arith}
+use Rattle.std.proofs.lemmas.List.{take_rest}
 use Rattle.lines.specs.Numbers.{number_at, numbers, lacking, number_of}
-use Rattle.lines.proofs.Reading.{number-here, number-on, none_left, read-end}
+use Rattle.lines.proofs.Reading.{numbers-begin, numbers-pass, later, none_left}
 use Rattle.lines.proofs.numbers.find.Goals as goal
+use Rattle.lines.proofs.numbers.find.Goals.{then-begins+else-left-eq0, else-begins}
 
-pub loop-i-init : goal.loop-i-init
+pub loop-at-init : goal.loop-at-init
 unfolding number_of numbers
-loop-i-init c = refl
+loop-at-init c = refl
 
-pub returns-then-left-begun : goal.returns-then-left-begun
+pub returns-then-left-eq0-clause-found : goal.returns-then-left-eq0-clause-found
 unfolding number_at
-returns-then-left-begun c =
-    let at = c in
-    let text = at.args.text.now in
-    at.loop-i.invariant
-    ∙ number-here text at.loop-i.i (omega arith) at.loop-i.last at.loop-i.left lacking (omega (arith, c.begun-begun.ensures))
+returns-then-left-eq0-clause-found c =
+    let at = c.loop-at in
+    c.loop-at.invariant
+    ∙ rw (numbers-begin c.args.text.now at.at (omega arith) at.last (cc c.if-begins.true), c.if-left-eq0.true, c.magnitude.ensures, take_rest c.args.text.now at.at)
 
-pub loop-i-preserved : goal.loop-i-preserved
-loop-i-preserved c =
-    let at = c in
-    let text = at.args.text.now in
-    let on = number-on text at.loop-i.i (omega arith) at.loop-i.last at.loop-i.left lacking (omega (arith, c.begun-begun.ensures)) in
-    rw c.begun-begun.ensures (at.loop-i.invariant ∙ on)
+pub loop-at-preserved : goal.loop-at-preserved
+loop-at-preserved c =
+    elim c.if-begins.branch [
+      | then-begins+else-left-eq0 w ↦ rw (w.left-is, w.last-is) (c.loop-at.invariant ∙ rw (numbers-begin c.args.text.now c.loop-at.at (omega arith) c.loop-at.last (cc w.if-begins.true)) (later _ _ c.loop-at.left lacking (omega arith)))
+      | else-begins w ↦ rw (w.left-is, w.last-is) (c.loop-at.invariant ∙ rw (numbers-pass c.args.text.now c.loop-at.at (omega arith) c.loop-at.last (cc w.if-begins.false)))
+    ]
 
-pub returns : goal.returns
-returns c =
-    let at = c in
-    let text = at.args.text.now in
-    at.loop-i.invariant ∙ rw (none_left text at.loop-i.i (omega arith) at.loop-i.last, read-end text at.loop-i.i (omega arith) 0)
+pub returns-clause-none : goal.returns-clause-none
+returns-clause-none c = c.loop-at.invariant ∙ rw (none_left c.args.text.now c.loop-at.at (omega arith) c.loop-at.last)

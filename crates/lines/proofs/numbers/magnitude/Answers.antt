@@ -4,20 +4,13 @@ use native.Mathlib.Omega.{arith}
 use Rattle.lines.proofs.Reading.{read-stop, read-on, read-end}
 use Rattle.lines.proofs.numbers.magnitude.Goals as goal
 
-pub returns-else-is_digit : goal.returns-else-is_digit
-returns-else-is_digit c =
-    let at = c in
-    let text = at.args.text.now in
-    sym (at.loop-i.invariant ∙ read-stop text at.loop-i.i (omega arith) at.loop-i.magnitude (sym c.is_digit.ensures ∙ c.if-is_digit.false))
+pub returns-then-not-is_ascii_digit : goal.returns-then-not-is_ascii_digit
+returns-then-not-is_ascii_digit c =
+    sym (c.loop-byte.invariant ∙ read-stop c.args.text.now c.loop-byte.byte-index (omega arith) c.loop-byte.magnitude (cc c.if-not-is_ascii_digit.true))
 
-pub loop-i-preserved : goal.loop-i-preserved
-loop-i-preserved c =
-    let at = c in
-    let text = at.args.text.now in
-    let digit = sym c.is_digit.ensures ∙ c.if-is_digit.true in
-    rw c.longer-magnitude.ensures (at.loop-i.invariant ∙ read-on text at.loop-i.i (omega arith) at.loop-i.magnitude digit)
+pub loop-byte-preserved : goal.loop-byte-preserved
+loop-byte-preserved c =
+    rw c.longer-magnitude.ensures (c.loop-byte.invariant ∙ read-on c.args.text.now c.loop-byte.byte-index (omega arith) c.loop-byte.magnitude (cc c.if-not-is_ascii_digit.false))
 
 pub returns : goal.returns
-returns c =
-    let text = c.args.text.now in
-    sym (c.loop-i.invariant ∙ read-end text c.loop-i.i (omega arith) c.loop-i.magnitude)
+returns c = sym (c.loop-byte.invariant ∙ read-end c.args.text.now c.loop-byte.byte-index (omega arith) c.loop-byte.magnitude)
