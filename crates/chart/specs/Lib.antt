@@ -1,3 +1,4 @@
 pub mod Published
 pub mod Groups
 pub mod Lookup
+pub mod Seasons

@@ -2,23 +2,39 @@
 
 ghost use Rattle.std.specs.Prelude.{◌≡◌, ◌≤◌};
 ghost use Rattle.chart.specs.Groups.{season_of, period_of};
+ghost use Rattle.chart.specs.Seasons.{place_of};
 
 use crate::Time;
 
-// 0 is summer, 1 winter, 2 the rest of the year.
-#[tactic(auto, using(crate::proofs::Seasons::seasons))]
-pub(crate) fn season(month: u64) -> u64
-    requires { month ≤ 12 }
-    ensures { result ≡ season_of month }
-{
-    match month {
-        5..=8 => 0,
-        12 | 1..=2 => 1,
-        _ => 2,
+#[derive(Clone, Copy)]
+pub(crate) enum Season {
+    Summer,
+    Winter,
+    RestOfYear,
+}
+
+impl Season {
+    #[tactic(auto, using(crate::proofs::Seasons::seasons))]
+    pub(crate) fn of(month: u64) -> Season
+        requires { month ≤ 12 }
+        ensures { place_of result ≡ season_of month }
+    {
+        match month {
+            5..=8 => Season::Summer,
+            12 | 1..=2 => Season::Winter,
+            _ => Season::RestOfYear,
+        }
+    }
+
+    // The seasons in the chart's order, from 0.
+    pub(crate) fn place(self) -> u64
+        ensures { result ≡ place_of self }
+    {
+        self as u64
     }
 }
 
-// 0 to 3 on ordinary weekdays, 4 on a weekend or holiday, 5 at night.
+// 0 to 3 on ordinary weekdays, 4 on a weekend or holiday, 5 at night: a number, since the paper names no periods.
 pub(crate) fn period(day: u64, hour: u64) -> u64
     requires { (day ≤ 1) × (hour ≤ 23) }
     ensures { result ≡ period_of day hour }

@@ -2,6 +2,9 @@
 
 ghost use Rattle.std.specs.Prelude.{◌≡◌, ◌≤◌};
 ghost use Rattle.chart.specs.Groups.{thirty_three, group_in, month_in};
+ghost use Rattle.chart.specs.Seasons.{place_of};
+
+use crate::groups::Season;
 
 // The group of each hour: for each season its weekdays, then its weekends and holidays, 24 hours each. Night is the same in both.
 const GROUPS: [u64; 144] = [
@@ -20,9 +23,9 @@ const GROUPS: [u64; 144] = [
 ];
 
 // Nothing else reads the constant, so its numbers meet the table's rows in one proof.
-pub(crate) fn group(season: u64, day: u64, hour: u64) -> u64
-    requires { (season ≤ 2) × (day ≤ 1) × (hour ≤ 23) }
-    ensures { result ≡ group_in thirty_three (month_in season) day hour }
+pub(crate) fn group(season: Season, day: u64, hour: u64) -> u64
+    requires { (day ≤ 1) × (hour ≤ 23) }
+    ensures { result ≡ group_in thirty_three (month_in (place_of season)) day hour }
 {
-    GROUPS[((season * 2 + day) * 24 + hour) as usize]
+    GROUPS[((season.place() * 2 + day) * 24 + hour) as usize]
 }

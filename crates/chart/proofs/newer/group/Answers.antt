@@ -2,9 +2,12 @@
 use mathlib.Core.Path.{refl}
 use native.Mathlib.Omega.{arith}
 use Rattle.chart.specs.Groups.{has, thirty_three, groups_at, group_in}
+use Rattle.chart.specs.Seasons.{place_of}
+use Rattle.chart.proofs.Seasons.{place-last}
 use Rattle.chart.proofs.ThirtyThree.{by-hour, listed}
 use Rattle.chart.proofs.newer.group.Goals as goal
 
 pub returns : goal.returns
 unfolding has thirty_three groups_at group_in
-returns c = listed by-hour refl c.args.season c.args.day c.args.hour (omega arith) (omega arith) (omega arith)
+returns c =
+    rw c.place.ensures (listed by-hour refl (place_of c.args.season) c.args.day c.args.hour (place-last c.args.season) (omega arith) (omega arith))
