@@ -35,21 +35,17 @@ impl Season {
 }
 
 // 0 to 3 on ordinary weekdays, 4 on a weekend or holiday, 5 at night: a number, since the paper names no periods.
+#[tactic(auto, using(crate::proofs::Periods::periods))]
 pub(crate) fn period(day: u64, hour: u64) -> u64
     requires { (day ≤ 1) × (hour ≤ 23) }
     ensures { result ≡ period_of day hour }
 {
-    match day {
-        Time::WEEKDAY => match hour {
-            7..=10 => 0,
-            11..=14 => 1,
-            15..=18 => 2,
-            19..=22 => 3,
-            _ => 5,
-        },
-        _ => match hour {
-            7..=22 => 4,
-            _ => 5,
-        },
+    match (day, hour) {
+        (Time::WEEKDAY, 7..=10) => 0,
+        (Time::WEEKDAY, 11..=14) => 1,
+        (Time::WEEKDAY, 15..=18) => 2,
+        (Time::WEEKDAY, 19..=22) => 3,
+        (Time::WEEKEND_OR_HOLIDAY, 7..=22) => 4,
+        _ => 5,
     }
 }
