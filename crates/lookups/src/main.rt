@@ -2,7 +2,7 @@
 // or 0, then the values, which are group and cents for the chart, in the newer edition the group alone, and 1 or 0 for exempt or not.
 #![tactic(auto)]
 
-use chart::{Edition, Entry, Table};
+use chart::{Edition, Table};
 use history::{History, Window};
 use std::{fmt, io};
 
@@ -54,19 +54,14 @@ impl fmt::Display for Look {
         let group = chart::group(answer);
         write!(f, "edition {edition} {name} bus {bus} month {month}")?;
         write!(f, " day type {day} hour {hour}: {number} {group}")?;
-        match answer {
-            Ok(
-                Entry {
-                    differential: None,
-                    ..
-                },
-            ) => Ok(()),
-            _ => write!(f, " {}", chart::cents(answer)),
+        if answer.is_ok_and(|entry| entry.differential.is_none()) {
+            return Ok(());
         }
+        write!(f, " {}", chart::cents(answer))
     }
 }
 
-// The import test that is asked, and its answer.
+// An import test that is asked, and its answer.
 #[derive(Clone, Copy)]
 struct Test(History);
 
