@@ -4,8 +4,7 @@ use mathlib.Core.Bool.{true}
 use Prim.Native.Nat.{ℕ, ◌≤◌}
 use native.Mathlib.Omega.{arith}
 use lib.Dec.{eqb}
-use Rattle.chart.specs.Groups.{has, season_of}
-use Rattle.chart.specs.Seasons.{place_of}
+use Rattle.chart.specs.Groups.{has, season_of, place_of}
 use Rattle.chart.specs.declared.groups.Season.{Season}
 use Rattle.chart.specs.declared.groups.Season.TheVariants.{Summer, Winter, RestOfYear}
 use Rattle.chart.proofs.Ranges.{every, equal}

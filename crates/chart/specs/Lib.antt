@@ -1,4 +1,3 @@
 pub mod Published
 pub mod Groups
 pub mod Lookup
-pub mod Seasons

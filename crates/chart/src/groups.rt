@@ -1,10 +1,9 @@
 // The season of a month and the period of an hour, by which the older edition numbers its groups.
 
 ghost use Rattle.std.specs.Prelude.{◌≡◌, ◌≤◌};
-ghost use Rattle.chart.specs.Groups.{season_of, period_of};
-ghost use Rattle.chart.specs.Seasons.{place_of};
+ghost use Rattle.chart.specs.Groups.{day_number, season_of, place_of, period_of};
 
-use crate::Time;
+use crate::DayType;
 
 #[derive(Clone, Copy)]
 pub(crate) enum Season {
@@ -36,16 +35,16 @@ impl Season {
 
 // 0 to 3 on ordinary weekdays, 4 on a weekend or holiday, 5 at night: a number, since the paper names no periods.
 #[tactic(auto, using(crate::proofs::Periods::periods))]
-pub(crate) fn period(day: u64, hour: u64) -> u64
-    requires { (day ≤ 1) × (hour ≤ 23) }
-    ensures { result ≡ period_of day hour }
+pub(crate) fn period(day: DayType, hour: u64) -> u64
+    requires { hour ≤ 23 }
+    ensures { result ≡ period_of (day_number day) hour }
 {
     match (day, hour) {
-        (Time::WEEKDAY, 7..=10) => 0,
-        (Time::WEEKDAY, 11..=14) => 1,
-        (Time::WEEKDAY, 15..=18) => 2,
-        (Time::WEEKDAY, 19..=22) => 3,
-        (Time::WEEKEND_OR_HOLIDAY, 7..=22) => 4,
+        (DayType::Weekday, 7..=10) => 0,
+        (DayType::Weekday, 11..=14) => 1,
+        (DayType::Weekday, 15..=18) => 2,
+        (DayType::Weekday, 19..=22) => 3,
+        (DayType::WeekendOrHoliday, 7..=22) => 4,
         _ => 5,
     }
 }

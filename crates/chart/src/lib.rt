@@ -6,9 +6,9 @@ mod differentials;
 mod groups;
 mod newer;
 
-ghost use Rattle.std.specs.Prelude.{◌≡◌, true, false, ◌≤◌, MatchResult, IfOk, OnErr};
+ghost use Rattle.std.specs.Prelude.{◌≡◌, true, false, ◌≤◌, leb, MatchResult, IfOk, OnErr};
 ghost use Rattle.chart.specs.Published.{differential_of, start_of};
-ghost use Rattle.chart.specs.Groups.{eighteen, thirty_three, group_in, time_in_range};
+ghost use Rattle.chart.specs.Groups.{eighteen, thirty_three, group_in, day_number, time_in_range};
 ghost use Rattle.chart.specs.Lookup.{bus_in_range, edition_number, in_edition, answer_in, lookup_of, number_of, group_of, cents_of};
 
 use groups::Season;
@@ -36,13 +36,19 @@ struct Bus {
     ghost in_range: { bus_in_range number ≡ true },
 }
 
+#[derive(Clone, Copy)]
+pub enum DayType {
+    Weekday,
+    WeekendOrHoliday,
+}
+
 // An hour of the chart: the month, the type of day, and when on the clock it begins.
 #[derive(Clone, Copy)]
 pub struct Time {
     pub month: u64,
-    pub day: u64,
+    pub day: DayType,
     pub hour: u64,
-    ghost in_range: { time_in_range month day hour ≡ true },
+    ghost in_range: { time_in_range month (day_number day) hour ≡ true },
 }
 
 // What the chart has for an hour at a bus.
@@ -130,6 +136,29 @@ impl TryFrom<u64> for Bus {
     }
 }
 
+impl DayType {
+    fn number(self) -> u64
+        ensures { result ≡ day_number self }
+    {
+        self as u64
+    }
+}
+
+impl TryFrom<u64> for DayType {
+    type Error = OutOfRange;
+
+    ghost try_from_gives = { λ number r. MatchResult r (λ day. day_number day ≡ number)
+        (λ _. leb number 1 ≡ false) };
+
+    fn try_from(number: u64) -> Result<DayType, OutOfRange> {
+        match number {
+            Time::WEEKDAY => Ok(DayType::Weekday),
+            Time::WEEKEND_OR_HOLIDAY => Ok(DayType::WeekendOrHoliday),
+            _ => Err(OutOfRange),
+        }
+    }
+}
+
 impl Time {
     pub const FIRST_MONTH: u64 = 1;
 
@@ -144,14 +173,13 @@ impl Time {
     // The older edition's groups of a season.
     const PERIODS: u64 = 6;
 
+    #[tactic(auto, using(crate::proofs::Parted::in_day_type, crate::proofs::Parted::no_day_type))]
     fn new(month: u64, day: u64, hour: u64) -> Result<Time, OutOfRange>
-        ensures ok { IfOk result (λ t. (t.month ≡ month) × (t.day ≡ day) × (t.hour ≡ hour)) }
+        ensures ok { IfOk result (λ t. (t.month ≡ month) × (day_number t.day ≡ day) × (t.hour ≡ hour)) }
         ensures err { OnErr result (time_in_range month day hour ≡ false) }
     {
-        if (Time::FIRST_MONTH..=Time::LAST_MONTH).contains(&month)
-            && day <= Time::WEEKEND_OR_HOLIDAY
-            && hour <= Time::LAST_HOUR
-        {
+        let day = DayType::try_from(day)?;
+        if (Time::FIRST_MONTH..=Time::LAST_MONTH).contains(&month) && hour <= Time::LAST_HOUR {
             Ok(Time { month, day, hour })
         } else {
             Err(OutOfRange)
@@ -159,7 +187,7 @@ impl Time {
     }
 
     fn group(self) -> u64
-        ensures value { result ≡ group_in eighteen self.month self.day self.hour }
+        ensures value { result ≡ group_in eighteen self.month (day_number self.day) self.hour }
         ensures in_chart { (1 ≤ result) × (result ≤ 18) }
     {
         let season = Season::of(self.month);
@@ -167,7 +195,7 @@ impl Time {
     }
 
     fn newer_group(self) -> u64
-        ensures { result ≡ group_in thirty_three self.month self.day self.hour }
+        ensures { result ≡ group_in thirty_three self.month (day_number self.day) self.hour }
     {
         newer::group(Season::of(self.month), self.day, self.hour)
     }
@@ -180,7 +208,7 @@ impl Edition {
 
     #[tactic(auto, unfolding(crate::specs::Lookup::answer_in))]
     fn entry(self, table: Table, bus: Bus, time: Time) -> Entry
-        ensures { result ≡ answer_in (edition_number self) table bus.number time.month time.day time.hour }
+        ensures { result ≡ answer_in (edition_number self) table bus.number time.month (day_number time.day) time.hour }
     {
         match self {
             Edition::Older => {

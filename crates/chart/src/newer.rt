@@ -1,9 +1,9 @@
 // The newer edition's 33 import groups (02, order 5; 001, 26.4.2.2.4): one constant chart of seasons, day types and hours.
 
 ghost use Rattle.std.specs.Prelude.{◌≡◌, ◌≤◌};
-ghost use Rattle.chart.specs.Groups.{thirty_three, group_in, month_in};
-ghost use Rattle.chart.specs.Seasons.{place_of};
+ghost use Rattle.chart.specs.Groups.{thirty_three, group_in, day_number, month_in, place_of};
 
+use crate::DayType;
 use crate::groups::Season;
 
 // The group of each hour: for each season its weekdays, then its weekends and holidays, 24 hours each. Night is the same in both.
@@ -45,9 +45,9 @@ const GROUPS: [[[u64; 24]; 2]; 3] = [
 ];
 
 // Nothing else reads the constant, so its numbers meet the table's rows in one proof.
-pub(crate) fn group(season: Season, day: u64, hour: u64) -> u64
-    requires { (day ≤ 1) × (hour ≤ 23) }
-    ensures { result ≡ group_in thirty_three (month_in (place_of season)) day hour }
+pub(crate) fn group(season: Season, day: DayType, hour: u64) -> u64
+    requires { hour ≤ 23 }
+    ensures { result ≡ group_in thirty_three (month_in (place_of season)) (day_number day) hour }
 {
-    GROUPS[season.place() as usize][day as usize][hour as usize]
+    GROUPS[season.place() as usize][day.number() as usize][hour as usize]
 }

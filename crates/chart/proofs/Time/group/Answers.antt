@@ -3,21 +3,21 @@ use mathlib.Core.Path.{◌≡◌}
 use Prim.Native.Nat.{ℕ, ◌+◌, ◌*◌, ◌≤◌}
 use native.Mathlib.Omega.{arith}
 use Rattle.chart.specs.declared.Time.{Time}
-use Rattle.chart.specs.Groups.{eighteen, group_in}
+use Rattle.chart.specs.Groups.{eighteen, group_in, day_number}
 use Rattle.chart.proofs.Eighteen.{eighteen-parted, agree}
 use Rattle.chart.proofs.Time.group.Goals as goal
 
 abbrev chosen : Time → ℕ
-chosen t = group_in eighteen t.month t.day t.hour
+chosen t = group_in eighteen t.month (day_number t.day) t.hour
 
 sum : (c : goal.After-period) → c.place.result * 6 + c.period.result + 1 ≡ chosen c.args.self
 sum c =
     let t = c.args.self in
-    let e = agree t.month t.day t.hour t.in_range in
+    let e = agree t.month (day_number t.day) t.hour t.in_range in
     cc
 
 numbered : (c : goal.After-period) → (1 ≤ chosen c.args.self) × (chosen c.args.self ≤ 18)
-numbered c = let t = c.args.self in eighteen-parted.numbered t.month t.day t.hour t.in_range
+numbered c = let t = c.args.self in eighteen-parted.numbered t.month (day_number t.day) t.hour t.in_range
 
 pub overflow_add-result : goal.overflow_add-result
 overflow_add-result c = omega (arith, sum c, (numbered c).1)
