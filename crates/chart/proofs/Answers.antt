@@ -2,34 +2,29 @@
 use mathlib.Core.Path.{◌≡◌, refl, sym, ap, ◌∙◌}
 use mathlib.Core.Bool.{Bool, true, false, cond, ◌&&◌}
 use Prim.Native.Nat.{ℕ, ◌≤◌}
-use borrow.Author.Tests.{leb-true, ne_eqb}
-use lib.Dec.{leb, eqb}
+use borrow.Author.Tests.{ne_eqb}
+use lib.Dec.{eqb}
+use Rattle.std.proofs.Common.{Ok, unwrap_or}
 use Rattle.chart.specs.Groups.{eighteen, thirty_three, group_in, time_in_range}
 use Rattle.chart.specs.Published.{differential_of}
-use Rattle.chart.specs.Lookup.{bus_in_range, in_edition, if_in_range, answer_in, lookup_of, number_of, group_of, cents_of}
-use Rattle.chart.specs.declared.Answer.{Answer}
-use Rattle.chart.specs.declared.Answer.TheVariants.{At, GroupOnly, Refused}
+use Rattle.chart.specs.Lookup.{Answer, At, GroupOnly, Refused, bus_in_range, in_edition, if_in_range, answer_in, lookup_of, number_of, group_of, cents_of}
+use Rattle.chart.specs.declared.Entry.{Entry}
 use Rattle.chart.specs.declared.Table.{Table}
-use Rattle.chart.proofs.Ranges.{left, right}
 use Rattle.chart.proofs.Eighteen.{eighteen-parted}
-use Rattle.chart.proofs.Places.{Cell, bounds}
+use Rattle.chart.proofs.Places.{Cell, on-chart, bounds}
 
-number_by : (b : Bool) (g x k : ℕ) → number_of (cond b (At g x) (GroupOnly k)) ≡ 0
-number_by true g x k = refl
-number_by false g x k = refl
-
-group-by : (b : Bool) (g x k : ℕ) → group_of (cond b (At g x) (GroupOnly k)) ≡ cond b g k
+group-by : (b : Bool) (g x k : ℕ) → (cond b (At g x) (GroupOnly k)).group ≡ cond b g k
 group-by true g x k = refl
 group-by false g x k = refl
 
-cents-by : (b : Bool) (g x k : ℕ) → cents_of (cond b (At g x) (GroupOnly k)) ≡ cond b x 0
+cents-by : (b : Bool) (g x k : ℕ) → unwrap_or (cond b (At g x) (GroupOnly k)).differential 0 ≡ cond b x 0
 cents-by true g x k = refl
 cents-by false g x k = refl
 
 -- what a refusal has in the place of each
-asked-if : (f : Answer → ℕ) (b : Bool) (a : Answer) → f (if_in_range b a) ≡ cond b (f a) (f Refused)
-asked-if f true a = refl
-asked-if f false a = refl
+asked-if : (f : Answer → ℕ) (b : Bool) (e : Entry) → f (if_in_range b e) ≡ cond b (f (Ok e)) (f Refused)
+asked-if f true e = refl
+asked-if f false e = refl
 
 module _ (edition : ℕ) (table : Table) (bus month day_type hour : ℕ) where
   abbrev inside : Bool
@@ -53,7 +48,7 @@ module _ (edition : ℕ) (table : Table) (bus month day_type hour : ℕ) where
   unfolding answer_in
   in-newer n = rw (ne_eqb edition 1 n)
 
-  pub answered : inside ≡ true → answer ≡ answer_in edition table bus month day_type hour
+  pub answered : inside ≡ true → answer ≡ Ok (answer_in edition table bus month day_type hour)
   unfolding lookup_of
   answered e = ap (λ (b : Bool). if_in_range b (answer_in edition table bus month day_type hour)) e
 
@@ -61,12 +56,30 @@ module _ (edition : ℕ) (table : Table) (bus month day_type hour : ℕ) where
   unfolding lookup_of
   refused e = ap (λ (b : Bool). if_in_range b (answer_in edition table bus month day_type hour)) e
 
+  pub in_chart : in_edition edition table ≡ true → bus_in_range bus ≡ true → time_in_range month day_type hour ≡ true → answer ≡ Ok (answer_in edition table bus month day_type hour)
+  in_chart e b t = let i : inside ≡ true = simp (e, b, t) in answered i
+
+  pub no_edition : in_edition edition table ≡ false → answer ≡ Refused
+  no_edition e = let i : inside ≡ false = simp e in refused i
+
+  pub no_bus : bus_in_range bus ≡ false → answer ≡ Refused
+  no_bus e = refused (of (in_edition edition table) (bus_in_range bus) (time_in_range month day_type hour) e)
+    where
+      of : (a b t : Bool) → b ≡ false → (a && b && t) ≡ false
+      of true b t e = simp e
+      of false b t e = refl
+
+  pub no_time : time_in_range month day_type hour ≡ false → answer ≡ Refused
+  no_time e = refused (of (in_edition edition table && bus_in_range bus) (time_in_range month day_type hour) e)
+    where
+      of : (a t : Bool) → t ≡ false → (a && t) ≡ false
+      of true t e = e
+      of false t e = refl
+
   -- 01, Turned away, and 02, order 5: 18 exactly when the edition has no such table, or the bus or the time is out of range; 0 besides
   pub number : number_of answer ≡ cond inside 0 18
   unfolding lookup_of answer_in
-  number =
-      asked-if number_of inside (answer_in edition table bus month day_type hour)
-      ∙ ap (λ (n : ℕ). cond inside n 18) (number_by (eqb edition 1) group (differential_of table bus group) newer)
+  number = asked-if number_of inside (answer_in edition table bus month day_type hour)
 
   pub groups : group_of answer ≡ cond inside (cond (eqb edition 1) group newer) 0
   unfolding lookup_of answer_in
@@ -88,14 +101,15 @@ module _ (edition : ℕ) (table : Table) (bus month day_type hour : ℕ) where
 pub cell : (bus month day_type hour : ℕ) → bus_in_range bus ≡ true → time_in_range month day_type hour ≡ true → Cell bus (group_in eighteen month day_type hour)
 cell bus month day_type hour b t =
     let g = eighteen-parted.numbered month day_type hour t in
+    let s = on-chart bus b in
     record {
-      bus-first = leb-true 1 bus (left (leb 1 bus) (leb bus 10) b);
-      bus-last = leb-true bus 10 (right (leb 1 bus) (leb bus 10) b);
+      bus-first = s.0;
+      bus-last = s.1;
       group-first = g.0;
       group-last = g.1;
     }
 
 -- 01, the chart: a differential that is answered lies from 2,388 to 32,148
-pub answered-bounds : (table : Table) (bus month day_type hour : ℕ) → bus_in_range bus ≡ true → time_in_range month day_type hour ≡ true → (let x = cents_of (answer_in 1 table bus month day_type hour) in (2388 ≤ x) × (x ≤ 32148))
+pub answered-bounds : (table : Table) (bus month day_type hour : ℕ) → bus_in_range bus ≡ true → time_in_range month day_type hour ≡ true → (let x = cents_of (Ok (answer_in 1 table bus month day_type hour)) in (2388 ≤ x) × (x ≤ 32148))
 unfolding answer_in
 answered-bounds table bus month day_type hour b t = bounds table bus (group_in eighteen month day_type hour) (cell bus month day_type hour b t)

@@ -1,5 +1,6 @@
 pub mod Ranges
 pub mod Seasons
+pub mod Periods
 pub mod Parted
 pub mod Eighteen
 pub mod ThirtyThree

@@ -7,7 +7,9 @@ use native.Mathlib.Omega.{arith}
 use borrow.Author.Tests.{eqb-true, leb-true}
 use lib.Dec.{leb, eqb}
 use lib.ListN.{get_or}
-use Rattle.chart.specs.Groups.{Span, ◌to◌, Row, row, groups_at, group_in, time_in_range, Hour, Parted}
+use Rattle.chart.specs.Groups.{Span, ◌to◌, Row, row, groups_at, group_in, day_number, time_in_range, Hour, Parted}
+use Rattle.chart.specs.declared.DayType.{DayType}
+use Rattle.chart.specs.declared.DayType.TheVariants.{Weekday, WeekendOrHoliday}
 use Rattle.chart.proofs.Ranges.{left, right, every, at, never}
 
 -- what stands in the ranges of a time
@@ -26,6 +28,20 @@ within m d h e =
       day-last = leb-true d 1 (right (leb 1 m && leb m 12) (leb d 1) (left _ (leb h 23) e));
       hour-last = leb-true h 23 (right (leb 1 m && leb m 12 && leb d 1) (leb h 23) e);
     }
+
+pub in_day_type : (day : DayType) → leb (day_number day) 1 ≡ true
+in_day_type Weekday = refl
+in_day_type WeekendOrHoliday = refl
+
+pub day-last : (day : DayType) → day_number day ≤ 1
+day-last day = leb-true (day_number day) 1 (in_day_type day)
+
+pub no_day_type : (m d h : ℕ) → leb d 1 ≡ false → time_in_range m d h ≡ false
+no_day_type m d h e = rw e (of (leb 1 m && leb m 12) (leb h 23))
+  where
+    of : (a b : Bool) → (a && false && b) ≡ false
+    of true b = refl
+    of false b = refl
 
 -- a test of months, day types and hours, at every time
 abbrev pub always : (ℕ → ℕ → ℕ → Bool) → Bool

@@ -9,6 +9,7 @@ use borrow.Author.Tests.{leb-true, eqb-true}
 use lib.Dec.{leb, eqb}
 use lib.ListN.{get_or, length, get_or-append}
 use Rattle.chart.specs.Published.{import_table, export_table, table_of, differential_of, joined, published, start_of}
+use Rattle.chart.specs.Lookup.{bus_in_range}
 use Rattle.chart.specs.declared.Table.{Table}
 use Rattle.chart.specs.declared.Table.TheVariants.{Import, Export}
 use Rattle.chart.proofs.Ranges.{left, right, every, at}
@@ -19,6 +20,9 @@ pub record Cell (bus group : ℕ) : Type 0 where
   pub bus-last : bus ≤ 10
   pub group-first : 1 ≤ group
   pub group-last : group ≤ 18
+
+pub on-chart : (bus : ℕ) → bus_in_range bus ≡ true → (1 ≤ bus) × (bus ≤ 10)
+on-chart bus e = (leb-true 1 bus (left (leb 1 bus) (leb bus 10) e), leb-true bus 10 (right (leb 1 bus) (leb bus 10) e))
 
 abbrev in_table : Table → ℕ → ℕ → ℕ
 in_table table bus group = get_or (get_or (table_of table) bus []) group 0

@@ -4,7 +4,9 @@ use mathlib.Core.Bool.{true}
 use Prim.Native.Nat.{ℕ, ◌≤◌}
 use native.Mathlib.Omega.{arith}
 use lib.Dec.{eqb}
-use Rattle.chart.specs.Groups.{has, season_of}
+use Rattle.chart.specs.Groups.{has, season_of, place_of}
+use Rattle.chart.specs.declared.groups.Season.{Season}
+use Rattle.chart.specs.declared.groups.Season.TheVariants.{Summer, Winter, RestOfYear}
 use Rattle.chart.proofs.Ranges.{every, equal}
 
 summer : every (λ m. eqb 0 (season_of m)) 5 4 ≡ true
@@ -50,3 +52,8 @@ pub in_autumn : (m : ℕ) → 9 ≤ m → m ≤ 11 → season_of m ≡ 2
 in_autumn m low high = sym (equal (λ m. 2) season_of 9 3 autumn m low (omega arith))
 
 pub ruleset seasons = (in_summer, in_january_february, in_december, in_no_month, in_spring, in_autumn)
+
+pub place-last : (s : Season) → place_of s ≤ 2
+place-last Summer = omega arith
+place-last Winter = omega arith
+place-last RestOfYear = omega arith

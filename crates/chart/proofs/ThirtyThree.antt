@@ -1,8 +1,8 @@
 -- The thirty-three groups part the year, and a chart by seasons has them all.
 use mathlib.Core.Path.{◌≡◌, refl, subst}
 use mathlib.Core.Bool.{Bool, true, cond, ◌&&◌}
-use mathlib.Core.List.{List, [], ◌∷◌, ◌++◌}
-use Prim.Native.Nat.{ℕ, zero, suc, ◌+◌, ◌*◌, ◌≤◌}
+use mathlib.Core.List.{List, [], ◌∷◌}
+use Prim.Native.Nat.{ℕ, zero, suc, ◌≤◌}
 use native.Mathlib.Omega.{arith}
 use borrow.Author.Tests.{eqb-true}
 use lib.Dec.{eqb}
@@ -26,24 +26,31 @@ by-season m d h t =
     eqb-true (group_in thirty_three (month_in (season_of m)) d h) (group_in thirty_three m d h)
     (at-time (λ m d h. eqb (group_in thirty_three (month_in (season_of m)) d h) (group_in thirty_three m d h)) refl m d h t)
 
--- the chart as a list: for each season its weekdays, then its weekends and holidays, 24 hours each
+-- the chart by seasons: for each its weekdays, then its weekends and holidays, 24 hours each
 abbrev pub hours : ℕ → ℕ → ℕ → ℕ → List ℕ
 hours s d h zero = []
 hours s d h (suc count) = group_in thirty_three (month_in s) d h ∷ hours s d (suc h) count
 
-abbrev pub by-hour : List ℕ
-by-hour = hours 0 0 0 24 ++ hours 0 1 0 24 ++ hours 1 0 0 24 ++ hours 1 1 0 24 ++ hours 2 0 0 24 ++ hours 2 1 0 24
+abbrev pub by-hour : List (List (List ℕ))
+by-hour =
+    (hours 0 0 0 24 ∷ hours 0 1 0 24 ∷ []) ∷
+    (hours 1 0 0 24 ∷ hours 1 1 0 24 ∷ []) ∷
+    (hours 2 0 0 24 ∷ hours 2 1 0 24 ∷ []) ∷
+    []
 
--- a list of seasons, day types and hours is the chart, where it is at each of its 144 places
-abbrev pub lists : List ℕ → Bool
-lists groups = every (λ s. every (λ d. every (λ h. eqb (get_or groups ((s * 2 + d) * 24 + h) 0) (group_in thirty_three (month_in s) d h)) 0 24) 0 2) 0 3
+abbrev pub place : List (List (List ℕ)) → ℕ → ℕ → ℕ → ℕ
+place groups s d h = get_or (get_or (get_or groups s []) d []) h 0
 
-pub listed : (groups : List ℕ) → lists groups ≡ true → (s d h : ℕ) → s ≤ 2 → d ≤ 1 → h ≤ 23 → get_or groups ((s * 2 + d) * 24 + h) 0 ≡ group_in thirty_three (month_in s) d h
+-- such lists are the chart, where it is at each of its 144 places
+abbrev pub lists : List (List (List ℕ)) → Bool
+lists groups = every (λ s. every (λ d. every (λ h. eqb (place groups s d h) (group_in thirty_three (month_in s) d h)) 0 24) 0 2) 0 3
+
+pub listed : (groups : List (List (List ℕ))) → lists groups ≡ true → (s d h : ℕ) → s ≤ 2 → d ≤ 1 → h ≤ 23 → place groups s d h ≡ group_in thirty_three (month_in s) d h
 listed groups e s d h hs hd hh =
-    let same : ℕ → ℕ → ℕ → Bool = λ s d h. eqb (get_or groups ((s * 2 + d) * 24 + h) 0) (group_in thirty_three (month_in s) d h) in
+    let same : ℕ → ℕ → ℕ → Bool = λ s d h. eqb (place groups s d h) (group_in thirty_three (month_in s) d h) in
     let of-season = at (λ s. every (λ d. every (same s d) 0 24) 0 2) 0 3 e s (omega arith) (omega arith) in
     let of-day = at (λ d. every (same s d) 0 24) 0 2 of-season d (omega arith) (omega arith) in
-    eqb-true (get_or groups ((s * 2 + d) * 24 + h) 0) (group_in thirty_three (month_in s) d h) (at (same s d) 0 24 of-day h (omega arith) (omega arith))
+    eqb-true (place groups s d h) (group_in thirty_three (month_in s) d h) (at (same s d) 0 24 of-day h (omega arith) (omega arith))
 
 -- 02, order 5: "with summer weekday hour 18 alone in one group"
 abbrev only-18 : ℕ → ℕ → ℕ → Bool

@@ -1,5 +1,9 @@
 -- The groups of the two editions of the chart, each a table of months, day types and hours.
 use Rattle.std.specs.Prelude.{◌≡◌, Bool, true, false, cond, ◌&&◌, ◌||◌, List, [], ◌∷◌, ℕ, ◌≤◌, leb, eqb, get_or}
+use Rattle.chart.specs.declared.DayType.{DayType}
+use Rattle.chart.specs.declared.DayType.TheVariants.{Weekday, WeekendOrHoliday}
+use Rattle.chart.specs.declared.groups.Season.{Season}
+use Rattle.chart.specs.declared.groups.Season.TheVariants.{Summer, Winter, RestOfYear}
 
 infixl 70 ◌to◌
 -- whole numbers from the first to the last, both included
@@ -26,6 +30,10 @@ weekday = 0 to 0 ∷ []
 
 abbrev pub weekend_or_holiday : List Span
 weekend_or_holiday = 1 to 1 ∷ []
+
+abbrev pub day_number : DayType → ℕ
+day_number Weekday = 0
+day_number WeekendOrHoliday = 1
 
 abbrev pub any_day : List Span
 any_day = 0 to 1 ∷ []
@@ -141,6 +149,11 @@ pub record BothCharts : Type 0 where
 -- 01, the chart: "Summer is May to August .., winter December to February .., the rest": a month's season, from 0
 unfoldable pub season_of : ℕ → ℕ
 season_of month = cond (has summer month) 0 (cond (has winter month) 1 2)
+
+abbrev pub place_of : Season → ℕ
+place_of Summer = 0
+place_of Winter = 1
+place_of RestOfYear = 2
 
 -- a month of each season
 abbrev pub month_in : ℕ → ℕ

@@ -6,10 +6,14 @@ mod differentials;
 mod groups;
 mod newer;
 
-ghost use Rattle.std.specs.Prelude.{◌≡◌, true, ◌≤◌};
+ghost use Rattle.std.specs.Prelude.{◌≡◌, true, false, ◌≤◌, leb, MatchResult, IfOk, OnErr};
 ghost use Rattle.chart.specs.Published.{differential_of, start_of};
-ghost use Rattle.chart.specs.Groups.{eighteen, thirty_three, group_in, time_in_range};
-ghost use Rattle.chart.specs.Lookup.{bus_in_range, in_edition, answer_in, lookup_of, number_of, group_of, cents_of};
+ghost use Rattle.chart.specs.Groups.{eighteen, thirty_three, group_in, day_number, time_in_range};
+ghost use Rattle.chart.specs.Lookup.{bus_in_range, edition_number, in_edition, answer_in, lookup_of, number_of, group_of, cents_of};
+
+use groups::Season;
+use std::error::Error;
+use std::fmt;
 
 // Virtual supply for imports, virtual load for exports.
 #[derive(Clone, Copy)]
@@ -18,33 +22,64 @@ pub enum Table {
     Export,
 }
 
-// An edition of the chart, named by its number.
+// An edition of the chart: the older has 18 groups, the newer 33.
 #[derive(Clone, Copy)]
-pub struct Edition {
-    pub number: u64,
+pub enum Edition {
+    Older,
+    Newer,
+}
+
+// A bus of the chart.
+#[derive(Clone, Copy)]
+struct Bus {
+    number: u64,
+    ghost in_range: { bus_in_range number ≡ true },
+}
+
+#[derive(Clone, Copy)]
+pub enum DayType {
+    Weekday,
+    WeekendOrHoliday,
 }
 
 // An hour of the chart: the month, the type of day, and when on the clock it begins.
 #[derive(Clone, Copy)]
 pub struct Time {
     pub month: u64,
-    pub day: u64,
+    pub day: DayType,
     pub hour: u64,
+    ghost in_range: { time_in_range month (day_number day) hour ≡ true },
 }
 
-#[derive(Clone, Copy)]
-pub enum Answer {
-    At { group: u64, cents: u64 },
-    // The newer edition has no differentials.
-    GroupOnly { group: u64 },
-    Refused,
+// What the chart has for an hour at a bus.
+#[derive(Clone, Copy, Debug, PartialEq, Eq)]
+pub struct Entry {
+    pub group: u64,
+    // In cents per MWh. The newer edition has none.
+    pub differential: Option<u64>,
 }
 
-impl Edition {
-    pub const OF_18_GROUPS: u64 = 1;
+// Why a lookup is refused: bus, month, day type or hour is out of range, or the edition has no such table.
+#[derive(Clone, Copy, Debug, PartialEq, Eq)]
+pub struct OutOfRange;
 
-    pub const OF_33_GROUPS: u64 = 2;
+pub type Answer = Result<Entry, OutOfRange>;
+
+impl OutOfRange {
+    pub const NUMBER: u64 = 18;
 }
+
+impl fmt::Display for OutOfRange {
+    ghost use Rattle.std.specs.Prelude.{Some, codes};
+
+    ghost output = { λ _. Some (codes "not in the chart") };
+
+    fn fmt<W: fmt::Write>(&self, f: &mut fmt::Formatter<W>) -> fmt::Result {
+        f.write_str("not in the chart")
+    }
+}
+
+impl Error for OutOfRange {}
 
 impl Table {
     pub const FIRST_BUS: u64 = 1;
@@ -55,21 +90,16 @@ impl Table {
 
     const EXPORT_START: u64 = 180;
 
-    // Exports have the older edition alone.
-    fn in_edition(self, edition: u64) -> bool
-        ensures { result ≡ in_edition edition self }
+    // The edition of a number. Exports have the older edition alone.
+    fn edition(self, number: u64) -> Result<Edition, OutOfRange>
+        ensures ok { IfOk result (λ e. (in_edition number self ≡ true) × (edition_number e ≡ number)) }
+        ensures err { OnErr result (in_edition number self ≡ false) }
     {
-        match self {
-            Table::Import => (edition == Edition::OF_18_GROUPS)
-                | (edition == Edition::OF_33_GROUPS),
-            Table::Export => edition == Edition::OF_18_GROUPS,
+        match (self, number) {
+            (_, Edition::OF_18_GROUPS) => Ok(Edition::Older),
+            (Table::Import, Edition::OF_33_GROUPS) => Ok(Edition::Newer),
+            _ => Err(OutOfRange),
         }
-    }
-
-    fn has_bus(bus: u64) -> bool
-        ensures { result ≡ bus_in_range bus }
-    {
-        (Table::FIRST_BUS <= bus) & (bus <= Table::LAST_BUS)
     }
 
     // Where the table begins in the constant.
@@ -82,13 +112,50 @@ impl Table {
         }
     }
 
-    fn differential(self, bus: u64, group: u64) -> u64
-        requires le_bus { (1 ≤ bus) × (bus ≤ 10) }
+    fn differential(self, bus: Bus, group: u64) -> u64
         requires le_group { (1 ≤ group) × (group ≤ 18) }
-        ensures { result ≡ differential_of self bus group }
+        ensures { result ≡ differential_of self bus.number group }
     {
-        let place = self.start() + (bus - 1) * Table::GROUPS + (group - 1);
+        let place = self.start() + (bus.number - 1) * Table::GROUPS + (group - 1);
         differentials::entry(place)
+    }
+}
+
+impl TryFrom<u64> for Bus {
+    type Error = OutOfRange;
+
+    ghost try_from_gives = { λ number r. MatchResult r (λ bus. bus.number ≡ number)
+        (λ _. bus_in_range number ≡ false) };
+
+    fn try_from(number: u64) -> Result<Bus, OutOfRange> {
+        if (Table::FIRST_BUS..=Table::LAST_BUS).contains(&number) {
+            Ok(Bus { number })
+        } else {
+            Err(OutOfRange)
+        }
+    }
+}
+
+impl DayType {
+    fn number(self) -> u64
+        ensures { result ≡ day_number self }
+    {
+        self as u64
+    }
+}
+
+impl TryFrom<u64> for DayType {
+    type Error = OutOfRange;
+
+    ghost try_from_gives = { λ number r. MatchResult r (λ day. day_number day ≡ number)
+        (λ _. leb number 1 ≡ false) };
+
+    fn try_from(number: u64) -> Result<DayType, OutOfRange> {
+        match number {
+            Time::WEEKDAY => Ok(DayType::Weekday),
+            Time::WEEKEND_OR_HOLIDAY => Ok(DayType::WeekendOrHoliday),
+            _ => Err(OutOfRange),
+        }
     }
 }
 
@@ -106,94 +173,87 @@ impl Time {
     // The older edition's groups of a season.
     const PERIODS: u64 = 6;
 
-    fn in_range(self) -> bool
-        ensures { result ≡ time_in_range self.month self.day self.hour }
+    #[tactic(auto, using(crate::proofs::Parted::in_day_type, crate::proofs::Parted::no_day_type))]
+    fn new(month: u64, day: u64, hour: u64) -> Result<Time, OutOfRange>
+        ensures ok { IfOk result (λ t. (t.month ≡ month) × (day_number t.day ≡ day) × (t.hour ≡ hour)) }
+        ensures err { OnErr result (time_in_range month day hour ≡ false) }
     {
-        (Time::FIRST_MONTH <= self.month)
-            & (self.month <= Time::LAST_MONTH)
-            & (self.day <= Time::WEEKEND_OR_HOLIDAY)
-            & (self.hour <= Time::LAST_HOUR)
+        let day = DayType::try_from(day)?;
+        if (Time::FIRST_MONTH..=Time::LAST_MONTH).contains(&month) && hour <= Time::LAST_HOUR {
+            Ok(Time { month, day, hour })
+        } else {
+            Err(OutOfRange)
+        }
     }
 
     fn group(self) -> u64
-        requires { time_in_range self.month self.day self.hour ≡ true }
-        ensures { result ≡ group_in eighteen self.month self.day self.hour }
+        ensures value { result ≡ group_in eighteen self.month (day_number self.day) self.hour }
+        ensures in_chart { (1 ≤ result) × (result ≤ 18) }
     {
-        groups::season(self.month) * Time::PERIODS + groups::period(self.day, self.hour) + 1
+        let season = Season::of(self.month);
+        season.place() * Time::PERIODS + groups::period(self.day, self.hour) + 1
     }
 
     fn newer_group(self) -> u64
-        requires { time_in_range self.month self.day self.hour ≡ true }
-        ensures { result ≡ group_in thirty_three self.month self.day self.hour }
+        ensures { result ≡ group_in thirty_three self.month (day_number self.day) self.hour }
     {
-        newer::group(groups::season(self.month), self.day, self.hour)
+        newer::group(Season::of(self.month), self.day, self.hour)
     }
 }
 
-impl Answer {
-    pub const REFUSAL: u64 = 18;
+impl Edition {
+    pub const OF_18_GROUPS: u64 = 1;
 
-    // The refusal's number; 0 when the lookup was answered.
-    pub fn number(self) -> u64
-        ensures { result ≡ number_of self }
+    pub const OF_33_GROUPS: u64 = 2;
+
+    #[tactic(auto, unfolding(crate::specs::Lookup::answer_in))]
+    fn entry(self, table: Table, bus: Bus, time: Time) -> Entry
+        ensures { result ≡ answer_in (edition_number self) table bus.number time.month (day_number time.day) time.hour }
     {
         match self {
-            Answer::At { group: _, cents: _ } => 0,
-            Answer::GroupOnly { group: _ } => 0,
-            Answer::Refused => Answer::REFUSAL,
-        }
-    }
-
-    pub fn group(self) -> u64
-        ensures { result ≡ group_of self }
-    {
-        match self {
-            Answer::At { group, cents: _ } => group,
-            Answer::GroupOnly { group } => group,
-            Answer::Refused => 0,
-        }
-    }
-
-    // 0 where there is no differential: in the newer edition, and in a refusal.
-    pub fn cents(self) -> u64
-        ensures { result ≡ cents_of self }
-    {
-        match self {
-            Answer::At { group: _, cents } => cents,
-            Answer::GroupOnly { group: _ } => 0,
-            Answer::Refused => 0,
-        }
-    }
-}
-
-// What is answered where nothing is out of range.
-fn answered(edition: u64, table: Table, bus: u64, time: Time) -> Answer
-    requires bus_value { bus_in_range bus ≡ true }
-    requires hour_value { time_in_range time.month time.day time.hour ≡ true }
-    ensures { result ≡ answer_in edition table bus time.month time.day time.hour }
-{
-    match edition {
-        Edition::OF_18_GROUPS => {
-            let group = time.group();
-            Answer::At {
-                group,
-                cents: table.differential(bus, group),
+            Edition::Older => {
+                let group = time.group();
+                Entry {
+                    group,
+                    differential: Some(table.differential(bus, group)),
+                }
             }
+            Edition::Newer => Entry {
+                group: time.newer_group(),
+                differential: None,
+            },
         }
-        _ => Answer::GroupOnly {
-            group: time.newer_group(),
-        },
     }
 }
 
 // 02, order 5: the edition is the caller's, 1 or 2 (`Edition`).
+#[tactic(auto, using(crate::proofs::Answers::in_chart, crate::proofs::Answers::no_edition, crate::proofs::Answers::no_bus, crate::proofs::Answers::no_time))]
 pub fn lookup(edition: u64, table: Table, bus: u64, month: u64, day: u64, hour: u64) -> Answer
     ensures { result ≡ lookup_of edition table bus month day hour }
 {
-    let time = Time { month, day, hour };
-    if table.in_edition(edition) & Table::has_bus(bus) & time.in_range() {
-        answered(edition, table, bus, time)
-    } else {
-        Answer::Refused
-    }
+    let edition = table.edition(edition)?;
+    let bus = Bus::try_from(bus)?;
+    let time = Time::new(month, day, hour)?;
+    Ok(edition.entry(table, bus, time))
+}
+
+// The refusal's number; 0 when the lookup was answered.
+pub fn number(answer: Answer) -> u64
+    ensures { result ≡ number_of answer }
+{
+    answer.map_or(OutOfRange::NUMBER, |_| 0)
+}
+
+// 0 in a refusal.
+pub fn group(answer: Answer) -> u64
+    ensures { result ≡ group_of answer }
+{
+    answer.map_or(0, |entry| entry.group)
+}
+
+// 0 where there is no differential: in the newer edition, and in a refusal.
+pub fn cents(answer: Answer) -> u64
+    ensures { result ≡ cents_of answer }
+{
+    answer.map_or(0, |entry| entry.differential.unwrap_or(0))
 }

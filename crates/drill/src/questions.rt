@@ -98,11 +98,11 @@ impl Look {
 // Both are counted, and the digest goes on with their answers.
 pub(crate) fn answered(seed: u64, digest: u64, counts: &mut Counts) -> u64 {
     let test = history(seed).import_test();
-    let refused = test.number();
-    let exempt = test.exempt();
+    let refused = history::number(test);
+    let exempt = history::exempt(test);
     let asked = looked(seed);
     let look = asked.answer;
-    let number = look.number();
+    let number = chart::number(look);
     count(
         counts,
         pick(refused == 0, TESTS + 1 - exempt % 2, TESTS + 2),
@@ -113,5 +113,8 @@ pub(crate) fn answered(seed: u64, digest: u64, counts: &mut Counts) -> u64 {
         pick(number == 0, asked.answered_row(), asked.refused_row()),
     );
     let tested = mix(mix(digest, refused), exempt);
-    mix(mix(mix(tested, number), look.group()), look.cents())
+    mix(
+        mix(mix(tested, number), chart::group(look)),
+        chart::cents(look),
+    )
 }

@@ -1,10 +1,15 @@
 -- The import test of document 01, and what it answers in the paper's numbers.
-use Rattle.std.specs.Prelude.{◌⊎◌, Bool, true, false, ◌||◌, ℕ, ◌*◌, ◌≤◌, ◌<◌, leb, ltb}
-use Rattle.std.proofs.Math.Option.{Option, none, some}
+use Rattle.std.specs.Prelude.{◌⊎◌, Bool, true, false, ◌||◌, ℕ, ◌*◌, ◌≤◌, ◌<◌, leb, ltb, Option, Some, None, Result, Ok, Err}
 use Rattle.history.specs.declared.Window.{Window}
 use Rattle.history.specs.declared.History.{History}
-use Rattle.history.specs.declared.Answer.{Answer}
-use Rattle.history.specs.declared.Answer.TheVariants.{Exempt, NotExempt, Refused}
+use Rattle.history.specs.declared.Contradiction.{Contradiction}
+
+-- whether the imports are exempt, or a refusal
+abbrev pub Answer : Type 0
+Answer = Result Bool Contradiction
+
+abbrev pub Refused : Answer
+Refused = Err (record {})
 
 -- 01, the import test: "each 0 to 10^9", and "17: out of range, loss above MWh"
 abbrev pub faulty : Window → Bool
@@ -28,34 +33,34 @@ either false a b = b
 
 -- 01, the import test: "If the three-month bids are 50 or more that window counts, else if the six-month bids are 50 or more that one, else none"
 unfoldable pub counted : History → Option Window
-counted h = either (enough h.three) (some h.three) (either (enough h.six) (some h.six) none)
+counted h = either (enough h.three) (Some h.three) (either (enough h.six) (Some h.six) None)
 
 abbrev pub choose : Bool → Answer → Answer → Answer
 choose true a b = a
 choose false a b = b
 
 -- 01, the import test: "4 x loss is below its MWh"; 001, 26.4.2.2.1 (ii), "fewer than 25% of the MWhs .. settled at a loss"
-abbrev pub judged : Window → Answer
-judged w = choose (ltb (4 * w.loss) w.mwh) Exempt NotExempt
+abbrev pub judged : Window → Bool
+judged w = ltb (4 * w.loss) w.mwh
 
-abbrev pub judged_if : Option Window → Answer
-judged_if none = NotExempt
-judged_if (some w) = judged w
+abbrev pub judged_if : Option Window → Bool
+judged_if None = false
+judged_if (Some w) = judged w
 
 -- 01, the import test: "Exempt exactly when a window counts and 4 x loss is below its MWh"
 unfoldable pub import_test : History → Answer
-import_test h = choose (contradict h) Refused (judged_if (counted h))
+import_test h = choose (contradict h) Refused (Ok (judged_if (counted h)))
 
 -- 01, Turned away: the number of an answer; "17 and 18 answer 0 besides"
 abbrev pub number_of : Answer → ℕ
-number_of Exempt = 0
-number_of NotExempt = 0
-number_of Refused = 17
+number_of (Ok true) = 0
+number_of (Ok false) = 0
+number_of (Err e) = 17
 
 abbrev pub exempt_of : Answer → ℕ
-exempt_of Exempt = 1
-exempt_of NotExempt = 0
-exempt_of Refused = 0
+exempt_of (Ok true) = 1
+exempt_of (Ok false) = 0
+exempt_of (Err e) = 0
 
 -- a window whose numbers are in range, its loss within its MWh
 pub record Coherent (w : Window) : Type 0 where

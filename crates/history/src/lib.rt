@@ -2,7 +2,10 @@
 #![tactic(auto)]
 
 ghost use Rattle.std.specs.Prelude.{◌≡◌, ◌≤◌};
-ghost use Rattle.history.specs.Test.{faulty, below, contradict, enough, judged, import_test, number_of, exempt_of};
+ghost use Rattle.history.specs.Test.{faulty, below, contradict, enough, judged, counted, import_test, number_of, exempt_of};
+
+use std::error::Error;
+use std::fmt;
 
 // The scheduled Day-Ahead import bids of some months, their MWh, and the MWh of them that settled at a loss.
 #[derive(Clone, Copy)]
@@ -18,12 +21,28 @@ pub struct History {
     pub six: Window,
 }
 
-#[derive(Clone, Copy)]
-pub enum Answer {
-    Exempt,
-    NotExempt,
-    Refused,
+// Why the test refuses a history: its windows contradict.
+#[derive(Clone, Copy, Debug, PartialEq, Eq)]
+pub struct Contradiction;
+
+// Whether the imports are exempt.
+pub type Answer = Result<bool, Contradiction>;
+
+impl Contradiction {
+    pub const NUMBER: u64 = 17;
 }
+
+impl fmt::Display for Contradiction {
+    ghost use Rattle.std.specs.Prelude.{Some, codes};
+
+    ghost output = { λ _. Some (codes "the windows contradict") };
+
+    fn fmt<W: fmt::Write>(&self, f: &mut fmt::Formatter<W>) -> fmt::Result {
+        f.write_str("the windows contradict")
+    }
+}
+
+impl Error for Contradiction {}
 
 impl Window {
     pub const MOST: u64 = 1_000_000_000;
@@ -34,86 +53,68 @@ impl Window {
     fn is_faulty(self) -> bool
         ensures { result ≡ faulty self }
     {
-        (Window::MOST < self.bids)
-            | (Window::MOST < self.mwh)
-            | (Window::MOST < self.loss)
-            | (self.mwh < self.loss)
+        let numbers = [self.bids, self.mwh, self.loss];
+        numbers.iter().any(|&number| Window::MOST < number) || self.mwh < self.loss
     }
 
     fn is_below(self, other: Window) -> bool
         ensures { result ≡ below self other }
     {
-        (self.bids < other.bids) | (self.mwh < other.mwh) | (self.loss < other.loss)
+        self.bids < other.bids || self.mwh < other.mwh || self.loss < other.loss
     }
 
-    fn counts(self) -> bool
-        ensures { result ≡ enough self }
+    fn counts(&self) -> bool
+        ensures { result ≡ enough self.now }
     {
         Window::ENOUGH_BIDS <= self.bids
     }
 
     // Four times the loss fits, since the loss is in range.
-    fn judge(self) -> Answer
+    fn exempts(self) -> bool
         requires { self.loss ≤ 1000000000 }
         ensures { result ≡ judged self }
     {
-        if 4 * self.loss < self.mwh {
-            Answer::Exempt
-        } else {
-            Answer::NotExempt
-        }
+        4 * self.loss < self.mwh
     }
 }
 
 impl History {
+    #[tactic(auto, unfolding(crate::specs::Test::contradict))]
     fn contradicts(self) -> bool
         ensures { result ≡ contradict self }
     {
-        let three = self.three;
-        let six = self.six;
-        three.is_faulty() | six.is_faulty() | six.is_below(three)
+        self.three.is_faulty() || self.six.is_faulty() || self.six.is_below(self.three)
     }
 
+    // The window that counts.
+    #[tactic(auto, unfolding(crate::specs::Test::counted))]
+    fn counted(self) -> Option<Window>
+        ensures { result ≡ counted self }
+    {
+        [self.three, self.six].into_iter().find(Window::counts)
+    }
+
+    #[tactic(auto, using(crate::proofs::Answers::counted_loss), unfolding(crate::specs::Test::import_test))]
     pub fn import_test(self) -> Answer
         ensures { result ≡ import_test self }
     {
         if self.contradicts() {
-            return Answer::Refused;
+            return Err(Contradiction);
         }
-        let three = self.three;
-        let six = self.six;
-        if three.counts() {
-            three.judge()
-        } else if six.counts() {
-            six.judge()
-        } else {
-            Answer::NotExempt
-        }
+        Ok(self.counted().is_some_and(Window::exempts))
     }
 }
 
-impl Answer {
-    pub const REFUSAL: u64 = 17;
+// The refusal's number; 0 when the test was answered.
+pub fn number(answer: Answer) -> u64
+    ensures { result ≡ number_of answer }
+{
+    answer.map_or(Contradiction::NUMBER, |_| 0)
+}
 
-    // The refusal's number; 0 when the test was answered.
-    pub fn number(self) -> u64
-        ensures { result ≡ number_of self }
-    {
-        match self {
-            Answer::Exempt => 0,
-            Answer::NotExempt => 0,
-            Answer::Refused => Answer::REFUSAL,
-        }
-    }
-
-    // 1 for exempt, as the exempt mark of a book's record; 0 otherwise.
-    pub fn exempt(self) -> u64
-        ensures { result ≡ exempt_of self }
-    {
-        match self {
-            Answer::Exempt => 1,
-            Answer::NotExempt => 0,
-            Answer::Refused => 0,
-        }
-    }
+// 1 for exempt, as the exempt mark of a book's record; 0 otherwise.
+pub fn exempt(answer: Answer) -> u64
+    ensures { result ≡ exempt_of answer }
+{
+    answer.map_or(0, u64::from)
 }

@@ -2,336 +2,360 @@
 // or 0, then the values, which are group and cents for the chart, in the newer edition the group alone, and 1 or 0 for exempt or not.
 #![tactic(auto)]
 
-use chart::{Answer, Edition, Table};
+use chart::{Edition, Table};
 use history::{History, Window};
+use std::{fmt, io};
 
-// The C library's number of the stream.
-const STDOUT: i32 = 1;
-
-const U64_MAX: u64 = 18_446_744_073_709_551_615;
-
-fn main() {
-    weekdays();
-    weekends();
-    seasons();
-    differentials();
-    buses();
-    months();
-    day_types();
-    hours();
-    newer_chart();
-    newer_seasons();
-    newer_buses();
-    newer_months();
-    newer_day_types();
-    newer_hours();
-    exports();
-    editions();
-    shares();
-    windows();
-    most_in_three();
-    most_in_six();
-    contradictions();
+fn main(rt: HostRuntime) -> io::Result<()> {
+    weekdays(&rt)?;
+    weekends(&rt)?;
+    seasons(&rt)?;
+    differentials(&rt)?;
+    older_ranges(&rt)?;
+    newer_chart(&rt)?;
+    newer_seasons(&rt)?;
+    newer_ranges(&rt)?;
+    exports(&rt)?;
+    editions(&rt)?;
+    shares(&rt)?;
+    windows(&rt)?;
+    most_in_three(&rt)?;
+    most_in_six(&rt)?;
+    contradictions(&rt)
 }
 
-fn print(word: &[u8]) {
-    io::write_all(STDOUT, word);
+// A lookup that is asked, and its answer.
+#[derive(Clone, Copy)]
+struct Look {
+    edition: u64,
+    table: Table,
+    bus: u64,
+    month: u64,
+    day: u64,
+    hour: u64,
 }
 
-fn print_after(word: &[u8], value: u64) {
-    print(word);
-    io::print_decimal(STDOUT, value);
-}
-
-fn print_table(table: Table) {
-    match table {
-        Table::Import => print(b"import"),
-        Table::Export => print(b"export"),
-    }
-}
-
-fn print_cents(answer: Answer) {
-    match answer {
-        Answer::GroupOnly { group: _ } => print(b"\n"),
-        _ => {
-            print_after(b" ", answer.cents());
-            print(b"\n");
+impl fmt::Display for Look {
+    fn fmt<W: fmt::Write>(&self, f: &mut fmt::Formatter<W>) -> fmt::Result {
+        let Look {
+            edition,
+            table,
+            bus,
+            month,
+            day,
+            hour,
+        } = *self;
+        let name = match table {
+            Table::Import => "import",
+            Table::Export => "export",
+        };
+        let answer = chart::lookup(edition, table, bus, month, day, hour);
+        let number = chart::number(answer);
+        let group = chart::group(answer);
+        write!(f, "edition {edition} {name} bus {bus} month {month}")?;
+        write!(f, " day type {day} hour {hour}: {number} {group}")?;
+        if answer.is_ok_and(|entry| entry.differential.is_none()) {
+            return Ok(());
         }
+        write!(f, " {}", chart::cents(answer))
     }
 }
 
-fn look(edition: u64, table: Table, bus: u64, month: u64, day: u64, hour: u64) {
-    let answer = chart::lookup(edition, table, bus, month, day, hour);
-    print_after(b"edition ", edition);
-    print(b" ");
-    print_table(table);
-    print_after(b" bus ", bus);
-    print_after(b" month ", month);
-    print_after(b" day type ", day);
-    print_after(b" hour ", hour);
-    print_after(b": ", answer.number());
-    print_after(b" ", answer.group());
-    print_cents(answer);
+// An import test that is asked, and its answer.
+#[derive(Clone, Copy)]
+struct Test(History);
+
+#[derive(Clone, Copy)]
+struct Shown(Window);
+
+impl fmt::Display for Shown {
+    fn fmt<W: fmt::Write>(&self, f: &mut fmt::Formatter<W>) -> fmt::Result {
+        let Window { bids, mwh, loss } = self.0;
+        write!(f, "bids {bids} MWh {mwh} loss {loss}")
+    }
 }
 
-fn older(table: Table, bus: u64, month: u64, day: u64, hour: u64) {
-    look(Edition::OF_18_GROUPS, table, bus, month, day, hour);
+impl fmt::Display for Test {
+    fn fmt<W: fmt::Write>(&self, f: &mut fmt::Formatter<W>) -> fmt::Result {
+        let History { three, six } = self.0;
+        let answer = self.0.import_test();
+        let number = history::number(answer);
+        let exempt = history::exempt(answer);
+        write!(
+            f,
+            "three months {}, six months {}",
+            Shown(three),
+            Shown(six)
+        )?;
+        write!(f, ": {number} {exempt}")
+    }
 }
 
-fn newer(bus: u64, month: u64, day: u64, hour: u64) {
-    look(Edition::OF_33_GROUPS, Table::Import, bus, month, day, hour);
-}
+// In July, on a weekday; each list below says what else is asked.
+const OLDER: Look = Look {
+    edition: Edition::OF_18_GROUPS,
+    table: Table::Import,
+    bus: 1,
+    month: 7,
+    day: 0,
+    hour: 7,
+};
 
-fn print_window(window: Window) {
-    print_after(b" bids ", window.bids);
-    print_after(b" MWh ", window.mwh);
-    print_after(b" loss ", window.loss);
-}
+const NEWER: Look = Look {
+    edition: Edition::OF_33_GROUPS,
+    hour: 18,
+    ..OLDER
+};
 
-// The bids, the MWh and the loss of three months, then those of six.
-fn test(bids3: u64, mwh3: u64, loss3: u64, bids6: u64, mwh6: u64, loss6: u64) {
-    let three = Window {
-        bids: bids3,
-        mwh: mwh3,
-        loss: loss3,
-    };
-    let six = Window {
-        bids: bids6,
-        mwh: mwh6,
-        loss: loss6,
-    };
-    let history = History { three, six };
-    let answer = history.import_test();
-    print(b"three months");
-    print_window(three);
-    print(b", six months");
-    print_window(six);
-    print_after(b": ", answer.number());
-    print_after(b" ", answer.exempt());
-    print(b"\n");
-}
+const EXPORT: Look = Look {
+    table: Table::Export,
+    ..OLDER
+};
 
 // Both ends of each period of a July weekday: hour 22 is group 4, hour 23 group 6.
-fn weekdays() {
-    older(Table::Import, 1, 7, 0, 0);
-    older(Table::Import, 1, 7, 0, 6);
-    older(Table::Import, 1, 7, 0, 7);
-    older(Table::Import, 1, 7, 0, 10);
-    older(Table::Import, 1, 7, 0, 11);
-    older(Table::Import, 1, 7, 0, 14);
-    older(Table::Import, 1, 7, 0, 15);
-    older(Table::Import, 1, 7, 0, 18);
-    older(Table::Import, 1, 7, 0, 19);
-    older(Table::Import, 1, 7, 0, 22);
-    older(Table::Import, 1, 7, 0, 23);
+fn weekdays(rt: &impl Print) -> io::Result<()> {
+    for hour in [0, 6, 7, 10, 11, 14, 15, 18, 19, 22, 23] {
+        rt.println(Look { hour, ..OLDER })?;
+    }
+    Ok(())
 }
 
 // Both ends of a July weekend, then a holiday in each other season.
-fn weekends() {
-    older(Table::Import, 1, 7, 1, 6);
-    older(Table::Import, 1, 7, 1, 7);
-    older(Table::Import, 1, 7, 1, 22);
-    older(Table::Import, 1, 7, 1, 23);
-    older(Table::Import, 1, 1, 1, 12);
-    older(Table::Import, 1, 10, 1, 12);
+fn weekends(rt: &impl Print) -> io::Result<()> {
+    for (month, hour) in [(7, 6), (7, 7), (7, 22), (7, 23), (1, 12), (10, 12)] {
+        rt.println(Look {
+            month,
+            day: 1,
+            hour,
+            ..OLDER
+        })?;
+    }
+    Ok(())
 }
 
 // The first and the last month of each season, from April on.
-fn seasons() {
-    older(Table::Export, 2, 4, 0, 7);
-    older(Table::Export, 2, 5, 0, 7);
-    older(Table::Export, 2, 8, 0, 7);
-    older(Table::Export, 2, 9, 0, 7);
-    older(Table::Export, 2, 11, 0, 7);
-    older(Table::Export, 2, 12, 0, 7);
-    older(Table::Export, 2, 1, 0, 7);
-    older(Table::Export, 2, 2, 0, 7);
-    older(Table::Export, 2, 3, 0, 7);
+const MONTHS_OF_SEASONS: [u64; 9] = [4, 5, 8, 9, 11, 12, 1, 2, 3];
+
+fn seasons(rt: &impl Print) -> io::Result<()> {
+    for month in MONTHS_OF_SEASONS {
+        rt.println(Look {
+            bus: 2,
+            month,
+            ..EXPORT
+        })?;
+    }
+    Ok(())
 }
 
 // The least and the largest differential, then the first and the last of each table.
-fn differentials() {
-    older(Table::Import, 4, 1, 0, 11);
-    older(Table::Import, 9, 7, 0, 15);
-    older(Table::Import, 1, 5, 0, 7);
-    older(Table::Import, 10, 11, 0, 23);
-    older(Table::Export, 1, 5, 0, 7);
-    older(Table::Export, 10, 11, 0, 23);
+fn differentials(rt: &impl Print) -> io::Result<()> {
+    for (table, bus, month, hour) in [
+        (Table::Import, 4, 1, 11),
+        (Table::Import, 9, 7, 15),
+        (Table::Import, 1, 5, 7),
+        (Table::Import, 10, 11, 23),
+        (Table::Export, 1, 5, 7),
+        (Table::Export, 10, 11, 23),
+    ] {
+        rt.println(Look {
+            table,
+            bus,
+            month,
+            hour,
+            ..OLDER
+        })?;
+    }
+    Ok(())
 }
 
 // Each input at its limits and past them.
-fn buses() {
-    older(Table::Import, 0, 7, 0, 7);
-    older(Table::Import, 1, 7, 0, 7);
-    older(Table::Import, 10, 7, 0, 7);
-    older(Table::Import, 11, 7, 0, 7);
-    older(Table::Import, U64_MAX, 7, 0, 7);
-}
-
-fn months() {
-    older(Table::Import, 1, 0, 0, 7);
-    older(Table::Import, 1, 1, 0, 7);
-    older(Table::Import, 1, 12, 0, 7);
-    older(Table::Import, 1, 13, 0, 7);
-    older(Table::Import, 1, U64_MAX, 0, 7);
-}
-
-fn day_types() {
-    older(Table::Export, 1, 7, 0, 7);
-    older(Table::Export, 1, 7, 1, 7);
-    older(Table::Export, 1, 7, 2, 7);
-    older(Table::Export, 1, 7, U64_MAX, 7);
-}
-
-fn hours() {
-    older(Table::Export, 1, 7, 0, 0);
-    older(Table::Export, 1, 7, 0, 23);
-    older(Table::Export, 1, 7, 0, 24);
-    older(Table::Export, 1, 7, 0, U64_MAX);
+fn older_ranges(rt: &impl Print) -> io::Result<()> {
+    for bus in [0, 1, 10, 11, u64::MAX] {
+        rt.println(Look { bus, ..OLDER })?;
+    }
+    for month in [0, 1, 12, 13, u64::MAX] {
+        rt.println(Look { month, ..OLDER })?;
+    }
+    for day in [0, 1, 2, u64::MAX] {
+        rt.println(Look { day, ..EXPORT })?;
+    }
+    for hour in [0, 23, 24, u64::MAX] {
+        rt.println(Look { hour, ..EXPORT })?;
+    }
+    Ok(())
 }
 
 // The newer edition whole, a month for each season.
-fn newer_chart() {
-    newer_month(7);
-    newer_month(1);
-    newer_month(10);
-}
-
-fn newer_month(month: u64) {
-    newer_day(month, 0);
-    newer_day(month, 1);
-}
-
-fn newer_day(month: u64, day: u64) {
-    let mut hour: u64 = 0;
-    while hour < 24 {
-        newer(1, month, day, hour);
-        hour = hour + 1;
+fn newer_chart(rt: &impl Print) -> io::Result<()> {
+    for month in [7, 1, 10] {
+        for day in [0, 1] {
+            for hour in 0..24 {
+                rt.println(Look {
+                    month,
+                    day,
+                    hour,
+                    ..NEWER
+                })?;
+            }
+        }
     }
+    Ok(())
 }
 
 // Hour 7 is night in winter alone.
-fn newer_seasons() {
-    newer(2, 4, 0, 7);
-    newer(2, 5, 0, 7);
-    newer(2, 8, 0, 7);
-    newer(2, 9, 0, 7);
-    newer(2, 11, 0, 7);
-    newer(2, 12, 0, 7);
-    newer(2, 1, 0, 7);
-    newer(2, 2, 0, 7);
-    newer(2, 3, 0, 7);
+fn newer_seasons(rt: &impl Print) -> io::Result<()> {
+    for month in MONTHS_OF_SEASONS {
+        rt.println(Look {
+            bus: 2,
+            month,
+            hour: 7,
+            ..NEWER
+        })?;
+    }
+    Ok(())
 }
 
 // Each input at its limits and past them, in the newer edition.
-fn newer_buses() {
-    newer(0, 7, 0, 18);
-    newer(1, 7, 0, 18);
-    newer(10, 7, 0, 18);
-    newer(11, 7, 0, 18);
-    newer(U64_MAX, 7, 0, 18);
-}
-
-fn newer_months() {
-    newer(1, 0, 0, 18);
-    newer(1, 12, 0, 18);
-    newer(1, 13, 0, 18);
-    newer(1, U64_MAX, 0, 18);
-}
-
-fn newer_day_types() {
-    newer(1, 7, 1, 18);
-    newer(1, 7, 2, 18);
-    newer(1, 7, U64_MAX, 18);
-}
-
-fn newer_hours() {
-    newer(1, 7, 0, 0);
-    newer(1, 7, 0, 23);
-    newer(1, 7, 0, 24);
-    newer(1, 7, 0, U64_MAX);
+fn newer_ranges(rt: &impl Print) -> io::Result<()> {
+    for bus in [0, 1, 10, 11, u64::MAX] {
+        rt.println(Look { bus, ..NEWER })?;
+    }
+    for month in [0, 12, 13, u64::MAX] {
+        rt.println(Look { month, ..NEWER })?;
+    }
+    for day in [1, 2, u64::MAX] {
+        rt.println(Look { day, ..NEWER })?;
+    }
+    for hour in [0, 23, 24, u64::MAX] {
+        rt.println(Look { hour, ..NEWER })?;
+    }
+    Ok(())
 }
 
 // Exports have the older edition alone.
-fn exports() {
-    look(Edition::OF_18_GROUPS, Table::Export, 1, 7, 0, 18);
-    look(Edition::OF_33_GROUPS, Table::Export, 1, 7, 0, 18);
+fn exports(rt: &impl Print) -> io::Result<()> {
+    for edition in [Edition::OF_18_GROUPS, Edition::OF_33_GROUPS] {
+        rt.println(Look {
+            edition,
+            hour: 18,
+            ..EXPORT
+        })?;
+    }
+    Ok(())
 }
 
-fn editions() {
-    look(0, Table::Import, 1, 7, 0, 18);
-    look(1, Table::Import, 1, 7, 0, 18);
-    look(2, Table::Import, 1, 7, 0, 18);
-    look(3, Table::Import, 1, 7, 0, 18);
-    look(U64_MAX, Table::Import, 1, 7, 0, 18);
-    look(0, Table::Export, 1, 7, 0, 18);
-    look(3, Table::Export, 1, 7, 0, 18);
+fn editions(rt: &impl Print) -> io::Result<()> {
+    for edition in [0, 1, 2, 3, u64::MAX] {
+        rt.println(Look { edition, ..NEWER })?;
+    }
+    for edition in [0, 3] {
+        rt.println(Look {
+            edition,
+            hour: 18,
+            ..EXPORT
+        })?;
+    }
+    Ok(())
+}
+
+// The bids, the MWh and the loss of three months, and those of six.
+type Windows = ((u64, u64, u64), (u64, u64, u64));
+
+fn window((bids, mwh, loss): (u64, u64, u64)) -> Window {
+    Window { bids, mwh, loss }
+}
+
+fn tests(rt: &impl Print, windows: &[Windows]) -> io::Result<()> {
+    for &(three, six) in windows {
+        let history = History {
+            three: window(three),
+            six: window(six),
+        };
+        rt.println(Test(history))?;
+    }
+    Ok(())
 }
 
 // 24 and 25 MWh lost of 100; 25 of 101; and windows with no loss, no MWh, no bids.
-fn shares() {
-    test(50, 100, 24, 50, 100, 24);
-    test(50, 100, 25, 50, 100, 25);
-    test(50, 101, 25, 50, 101, 25);
-    test(50, 1, 0, 50, 1, 0);
-    test(50, 0, 0, 50, 0, 0);
-    test(0, 0, 0, 0, 0, 0);
+fn shares(rt: &impl Print) -> io::Result<()> {
+    for window in [
+        (50, 100, 24),
+        (50, 100, 25),
+        (50, 101, 25),
+        (50, 1, 0),
+        (50, 0, 0),
+        (0, 0, 0),
+    ] {
+        tests(rt, &[(window, window)])?;
+    }
+    Ok(())
 }
 
 // 49 and 50 bids, then three months and six months that disagree.
-fn windows() {
-    test(49, 100, 0, 49, 100, 0);
-    test(49, 100, 0, 50, 100, 0);
-    test(50, 100, 0, 50, 100, 0);
-    test(50, 100, 24, 60, 200, 100);
-    test(50, 100, 25, 60, 1000, 25);
-    test(49, 100, 25, 60, 1000, 25);
-    test(49, 100, 24, 60, 200, 100);
+fn windows(rt: &impl Print) -> io::Result<()> {
+    tests(
+        rt,
+        &[
+            ((49, 100, 0), (49, 100, 0)),
+            ((49, 100, 0), (50, 100, 0)),
+            ((50, 100, 0), (50, 100, 0)),
+            ((50, 100, 24), (60, 200, 100)),
+            ((50, 100, 25), (60, 1000, 25)),
+            ((49, 100, 25), (60, 1000, 25)),
+            ((49, 100, 24), (60, 200, 100)),
+        ],
+    )
 }
+
+const MOST: u64 = Window::MOST;
 
 // Each number at 10^9 and one past.
-fn most_in_three() {
-    test(1_000_000_000, 100, 24, 1_000_000_000, 100, 24);
-    test(1_000_000_001, 100, 24, 1_000_000_000, 100, 24);
-    test(50, 1_000_000_000, 24, 50, 1_000_000_000, 24);
-    test(50, 1_000_000_001, 24, 50, 1_000_000_000, 24);
-    test(
-        50,
-        1_000_000_000,
-        1_000_000_000,
-        50,
-        1_000_000_000,
-        1_000_000_000,
-    );
-    test(
-        50,
-        1_000_000_000,
-        1_000_000_001,
-        50,
-        1_000_000_000,
-        1_000_000_000,
-    );
-    test(U64_MAX, U64_MAX, U64_MAX, 50, 100, 24);
+fn most_in_three(rt: &impl Print) -> io::Result<()> {
+    tests(
+        rt,
+        &[
+            ((MOST, 100, 24), (MOST, 100, 24)),
+            ((MOST + 1, 100, 24), (MOST, 100, 24)),
+            ((50, MOST, 24), (50, MOST, 24)),
+            ((50, MOST + 1, 24), (50, MOST, 24)),
+            ((50, MOST, MOST), (50, MOST, MOST)),
+            ((50, MOST, MOST + 1), (50, MOST, MOST)),
+            ((u64::MAX, u64::MAX, u64::MAX), (50, 100, 24)),
+        ],
+    )
 }
 
-fn most_in_six() {
-    test(50, 100, 24, 1_000_000_000, 100, 24);
-    test(50, 100, 24, 1_000_000_001, 100, 24);
-    test(50, 100, 24, 50, 1_000_000_000, 24);
-    test(50, 100, 24, 50, 1_000_000_001, 24);
-    test(50, 100, 24, 50, 1_000_000_000, 1_000_000_000);
-    test(50, 100, 24, 50, 1_000_000_001, 1_000_000_001);
-    test(50, 100, 24, U64_MAX, U64_MAX, U64_MAX);
-    test(U64_MAX, U64_MAX, U64_MAX, U64_MAX, U64_MAX, U64_MAX);
+fn most_in_six(rt: &impl Print) -> io::Result<()> {
+    tests(
+        rt,
+        &[
+            ((50, 100, 24), (MOST, 100, 24)),
+            ((50, 100, 24), (MOST + 1, 100, 24)),
+            ((50, 100, 24), (50, MOST, 24)),
+            ((50, 100, 24), (50, MOST + 1, 24)),
+            ((50, 100, 24), (50, MOST, MOST)),
+            ((50, 100, 24), (50, MOST + 1, MOST + 1)),
+            ((50, 100, 24), (u64::MAX, u64::MAX, u64::MAX)),
+            (
+                (u64::MAX, u64::MAX, u64::MAX),
+                (u64::MAX, u64::MAX, u64::MAX),
+            ),
+        ],
+    )
 }
 
 // A loss equal to its MWh and one past, in each window; then a six-month number below its three-month one.
-fn contradictions() {
-    test(50, 100, 100, 50, 200, 100);
-    test(50, 100, 101, 50, 200, 101);
-    test(50, 100, 24, 50, 100, 100);
-    test(50, 100, 24, 50, 100, 101);
-    test(50, 100, 24, 49, 100, 24);
-    test(50, 100, 24, 50, 99, 24);
-    test(50, 100, 24, 50, 100, 23);
+fn contradictions(rt: &impl Print) -> io::Result<()> {
+    tests(
+        rt,
+        &[
+            ((50, 100, 100), (50, 200, 100)),
+            ((50, 100, 101), (50, 200, 101)),
+            ((50, 100, 24), (50, 100, 100)),
+            ((50, 100, 24), (50, 100, 101)),
+            ((50, 100, 24), (49, 100, 24)),
+            ((50, 100, 24), (50, 99, 24)),
+            ((50, 100, 24), (50, 100, 23)),
+        ],
+    )
 }
