@@ -5,11 +5,11 @@ use mathlib.Core.Bool.{Bool, true, false, cond}
 use mathlib.Core.List.{List, [], ◌∷◌, ◌++◌}
 use Prim.Native.Nat.{ℕ, ◌+◌, ◌<◌}
 use native.Mathlib.Omega.{arith}
-use lib.IntN.{ℤ, pos, ◌+ℤ◌, +ℤ_comm, +ℤ_assoc}
 use lib.ListN.{length, get_or, take}
 use Rattle.std.proofs.lemmas.List.{take_more, take_all, length-take}
-use Rattle.amounts.specs.Lists.{sum, total, every}
+use Rattle.amounts.specs.Lists.{sum, every}
 use Rattle.amounts.proofs.Signed.{tested}
+use Rattle.amounts.proofs.Sums.{total-push}
 use Rattle.refusals.proofs.Laws.{and_left, and_right, and_both, never}
 use Rattle.records.specs.declared.types.Record.{Record}
 use Rattle.records.specs.Records.{blank, ok_place}
@@ -22,11 +22,6 @@ use Rattle.walk.specs.Summing.{sums_in}
 use Rattle.walk.proofs.Sums.{sums-within, every_get}
 
 -- one element more
-total-push : {A : Type 0} (f : A → ℤ) (xs : List A) (x : A) → total f (xs ++ (x ∷ [])) ≡ total f xs +ℤ f x
-unfolding sum
-total-push f [] x = +ℤ_comm (f x) (pos 0)
-total-push f (y ∷ ys) x = ap (λ (z : ℤ). f y +ℤ z) (total-push f ys x) ∙ sym (+ℤ_assoc (f y) (total f ys) (f x))
-
 every_push : {A : Type 0} (p : A → Bool) (xs : List A) (x : A) → every p xs ≡ true → p x ≡ true → every p (xs ++ (x ∷ [])) ≡ true
 unfolding every
 every_push p [] x e h = and_both (p x) true h refl
