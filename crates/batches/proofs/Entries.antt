@@ -4,10 +4,11 @@ use mathlib.Core.Path.{◌≡◌, refl, sym, ap, ◌∙◌}
 use mathlib.Core.Bool.{true, false, not, ◌&&◌}
 use mathlib.Core.List.{List}
 use mathlib.Core.Logic.{⊎_elim}
-use Prim.Native.Nat.{ℕ, ◌+◌, ◌*◌, ◌-◌, ◌%◌, ◌<◌}
+use Prim.Native.Nat.{ℕ, ◌+◌, ◌*◌, ◌-◌, ◌%◌, ◌<◌, ◌≤◌}
 use native.Mathlib.Omega.{arith}
-use borrow.Author.Tests.{eqb-true, eqb-false}
+use borrow.Author.Tests.{eqb-true, eqb-false, ne_eqb}
 use lib.Dec.{eqb}
+use Rattle.std.specs.Prelude.{Option, Some, None, is_some, SomeIff, IfSome}
 use lib.IntN.{ℤ, pos, ◌+ℤ◌, +ℤ_idr}
 use lib.ListN.{length, get_or}
 use Rattle.amounts.proofs.Signed.{tested}
@@ -62,14 +63,21 @@ module _ (paths table : List ℕ) (prices : List ℤ) (r : Record) (ok : ok_plac
       (λ e. closed_is s q (none-applies (closed_rows s q) (closed-rows-numbered s q) (eqb-true n 0 e)) ∙ requirement-unlisted s path paths prices four out)
       (λ e. ap cents_of (answered-some n (closed_requirement s q) (eqb-false n 0 e)))
 
-  pub entry-nothing : entry ≡ 0 → pos 0 ≡ closed_for paths prices r
-  entry-nothing e = sym (unlisted (sym listed-is ∙ ap (λ (n : ℕ). not (eqb n 0)) e))
+  pub none-cents : false ≡ stands_in path paths → pos 0 ≡ closed_for paths prices r
+  none-cents out = sym (unlisted (sym out))
 
-  pub entry-cents : (entry ≡ 0 → ⊥) → cents_of (closed_verdict r.intervals (quote_at (entry - 1) prices)) ≡ closed_for paths prices r
+  pub some-cents : (place : ℕ) → place ≡ place_of path paths → cents_of (closed_verdict r.intervals (quote_at place prices)) ≡ closed_for paths prices r
   unfolding closed_for
-  entry-cents some =
-      ap (λ (n : ℕ). cents_of (closed_verdict r.intervals (quote_at n prices)))
-      (ap (λ (n : ℕ). n - 1) at_path ∙ entry-some paths table l path (path-low r ok) (λ z. some (at_path ∙ z)))
+  some-cents place is = ap (λ (n : ℕ). cents_of (closed_verdict r.intervals (quote_at n prices))) is
+
+  -- an entry less 1, where it is above 0
+  pub place-listed : (o : Option ℕ) → SomeIff o (1 ≤ entry) (entry - 1) → is_some o ≡ stands_in path paths
+  place-listed None none = let e : entry ≡ 0 = omega (arith, none) in sym (sym listed-is ∙ ap (λ (n : ℕ). not (eqb n 0)) e)
+  place-listed (Some place) some = let e = ne_eqb entry 0 (λ z. omega (arith, some.0)) in sym (sym listed-is ∙ ap not e)
+
+  pub place-is : (o : Option ℕ) → SomeIff o (1 ≤ entry) (entry - 1) → IfSome o (λ place. place ≡ place_of path paths)
+  place-is None none = tt
+  place-is (Some place) some = some.1 ∙ ap (λ (n : ℕ). n - 1) at_path ∙ entry-some paths table l path (path-low r ok) (λ z. omega (arith, some.0, at_path))
 
 -- ---- one place more
 module _ (hour : ℕ) (paths : List ℕ) (prices : List ℤ) (s : Batch) (r : Record) where

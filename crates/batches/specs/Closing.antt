@@ -18,7 +18,7 @@ pub use Rattle.batches.specs.declared.types.Closed.{Closed}
 abbrev pub nothing : Batch
 nothing = record { count = 0; listed = true; cents = pos 0 }
 
--- one place more, before those that were passed
+-- one place more
 unfoldable pub more : ℕ → List ℕ → List ℤ → Batch → Record → Batch
 more hour paths prices s r =
     record {

@@ -1,7 +1,9 @@
 // What each place of a book brings to the batch of an hour, and what becomes of it.
-ghost use Rattle.std.specs.Prelude.{◌≡◌, true, ◌*◌, length};
+ghost use Rattle.std.specs.Prelude.{◌≡◌, true, ◌*◌, length, is_some, IfSome};
 ghost use Rattle.amounts.specs.Amount.{Range};
+ghost use Rattle.distinct.specs.Numbers.{stands_in};
 ghost use Rattle.records.specs.Records.{ok_place};
+ghost use Rattle.closings.specs.Closings.{place_of};
 ghost use Rattle.closings.specs.Listing.{Lists};
 ghost use Rattle.batches.specs.Batches.{closed_for, batched as batched_of};
 ghost use Rattle.batches.specs.Closing.{nothing, more, Light};
@@ -11,18 +13,54 @@ use kinds::Stage;
 use records::types::Record;
 use refusals::cents_or_zero;
 
-// What a bid requires at its path's prices; 0 where its path is not listed.
-fn closed_cents(r: Record, paths: &[u64], places: &[u64; 1_024], prices: &[i64]) -> i64
-    requires r_value { ok_place r ≡ true }
-    requires lists { Lists paths.now places.now }
-    requires prices_len { length prices.now ≡ length paths.now * 4 }
-    ensures { (result ≡ closed_for paths.now prices.now r) × Range 0 640000000000 result }
-{
-    let place = places[r.key.path as usize % 1_024];
-    if place == 0 {
-        return 0;
+// A close by itself: its hour, the paths that it lists with four prices each, and the table of those paths.
+#[derive(Clone, Copy)]
+pub(crate) struct Listing<'a> {
+    pub hour: u64,
+    pub paths: &'a [u64],
+    pub prices: &'a [i64],
+    pub places: &'a [u64; 1_024],
+    ghost lists: { Lists paths.now places.now },
+    ghost prices_len: { length prices.now ≡ length paths.now * 4 },
+}
+
+impl Listing<'_> {
+    // Where the path of a bid stands in the list.
+    fn place(self, r: Record) -> Option<u64>
+        requires { ok_place r ≡ true }
+        ensures listed { is_some result ≡ stands_in r.key.path self.entry.paths.now }
+        ensures place { IfSome result (λ place. place ≡ place_of r.key.path self.entry.paths.now) }
+    {
+        self.places[r.key.path as usize % 1_024].checked_sub(1)
     }
-    cents_or_zero(closings::closed(r.intervals, closings::quote_at(place - 1, prices)))
+
+    // What a bid requires at its path's prices; 0 where its path is not listed.
+    fn cents(self, r: Record) -> i64
+        requires { ok_place r ≡ true }
+        ensures { (result ≡ closed_for self.entry.paths.now self.entry.prices.now r) × Range 0 640000000000 result }
+    {
+        match self.place(r) {
+            Some(place) => cents_or_zero(closings::closed(
+                r.intervals,
+                closings::quote_at(place, self.prices),
+            )),
+            None => 0,
+        }
+    }
+
+    // A pending bid of the hour is removed, or moved to stage 2; any other place stays as it is.
+    pub(crate) fn batched(self, much: bool, r: Record) -> Record
+        requires { ok_place r ≡ true }
+        ensures { result ≡ batched_of much self.entry.hour self.entry.paths.now self.entry.prices.now r }
+    {
+        if !r.is_pending(self.hour) {
+            return r;
+        }
+        if much {
+            return Record::blank();
+        }
+        r.advanced(Stage::POSTED, r.schedule, r.price, self.cents(r))
+    }
 }
 
 impl Batch {
@@ -36,57 +74,19 @@ impl Batch {
         }
     }
 
-    // One place more, before those that were passed.
-    pub(crate) fn with(
-        self,
-        r: Record,
-        hour: u64,
-        paths: &[u64],
-        places: &[u64; 1_024],
-        prices: &[i64],
-    ) -> Batch
+    // One place more, after those that were passed.
+    pub(crate) fn with(self, r: Record, listing: Listing) -> Batch
         requires light { Light self }
         requires r_value { ok_place r ≡ true }
-        requires lists { Lists paths.now places.now }
-        requires prices_len { length prices.now ≡ length paths.now * 4 }
-        ensures { result ≡ more hour paths.now prices.now self r }
+        ensures { result ≡ more listing.entry.hour listing.entry.paths.now listing.entry.prices.now self r }
     {
-        if !r.is_pending(hour) {
+        if !r.is_pending(listing.hour) {
             return self;
         }
-        let listed = !(places[r.key.path as usize % 1_024] == 0);
         Batch {
             count: self.count + 1,
-            listed: listed & self.listed,
-            cents: self.cents + closed_cents(r, paths, places, prices),
+            listed: listing.place(r).is_some() & self.listed,
+            cents: self.cents + listing.cents(r),
         }
     }
-}
-
-// A pending bid of the hour is removed, or moved to stage 2; any other place stays as it is.
-pub(crate) fn batched(
-    much: bool,
-    r: Record,
-    hour: u64,
-    paths: &[u64],
-    places: &[u64; 1_024],
-    prices: &[i64],
-) -> Record
-    requires r_value { ok_place r ≡ true }
-    requires lists { Lists paths.now places.now }
-    requires prices_len { length prices.now ≡ length paths.now * 4 }
-    ensures { result ≡ batched_of much hour paths.now prices.now r }
-{
-    if !r.is_pending(hour) {
-        return r;
-    }
-    if much {
-        return Record::blank();
-    }
-    r.advanced(
-        Stage::POSTED,
-        r.schedule,
-        r.price,
-        closed_cents(r, paths, places, prices),
-    )
 }

@@ -1,66 +1,42 @@
 // A close, over the places of a book and what it keeps beside them: one walk to see the batch, and one to write it.
-ghost use Rattle.std.specs.Prelude.{◌≡◌, true, map, ◌*◌, length};
+ghost use Rattle.std.specs.Prelude.{◌≡◌, true, map};
 ghost use Rattle.amounts.specs.Amount.{Within};
 ghost use Rattle.amounts.specs.Lists.{every};
 ghost use Rattle.refusals.specs.Refusals.{None};
 ghost use Rattle.records.specs.Records.{ok_place};
 ghost use Rattle.closings.specs.Closings.{each_once, close_rows};
-ghost use Rattle.closings.specs.Listing.{Lists};
 ghost use Rattle.batches.specs.Batches.{pending_paths, batched as batched_of};
 ghost use Rattle.batches.specs.Closing.{seen as seen_of, closed_by};
 
-use crate::batch::batched;
+use crate::batch::Listing;
 use crate::types::{Batch, Closed};
 use credit::types::Account;
 use records::types::Record;
 use refusals::Answer;
 
 // What all places bring to the batch.
-fn seen(
-    records: [Record; 256],
-    hour: u64,
-    paths: &[u64],
-    places: &[u64; 1_024],
-    prices: &[i64],
-) -> Batch
-    requires records_value { every ok_place records ≡ true }
-    requires lists { Lists paths.now places.now }
-    requires prices_len { length prices.now ≡ length paths.now * 4 }
-    ensures { result ≡ seen_of hour paths.now prices.now records }
+fn seen(records: &[Record; 256], listing: Listing) -> Batch
+    requires { every ok_place records.now ≡ true }
+    ensures { result ≡
+        seen_of listing.entry.hour listing.entry.paths.now listing.entry.prices.now records.now }
 {
     let mut batch = Batch::nothing();
-    // From the end, as the sums recurse.
-    let mut i: usize = 256;
-    while 0 < i {
-        i -= 1;
-        let r = records[i];
-        batch = batch.with(r, hour, paths, places, prices);
+    for r in records {
+        batch = batch.with(*r, listing);
     }
     batch
 }
 
 // Each place, removed or moved or as it was.
-fn written(
-    records: [Record; 256],
-    much: bool,
-    hour: u64,
-    paths: &[u64],
-    places: &[u64; 1_024],
-    prices: &[i64],
-) -> [Record; 256]
-    requires records_value { every ok_place records ≡ true }
-    requires lists { Lists paths.now places.now }
-    requires prices_len { length prices.now ≡ length paths.now * 4 }
-    ensures { result ≡ map (batched_of much hour paths.now prices.now) records }
+fn written(mut records: [Record; 256], much: bool, listing: Listing) -> [Record; 256]
+    requires { every ok_place records ≡ true }
+    ensures { result ≡
+        map (batched_of much listing.entry.hour listing.entry.paths.now listing.entry.prices.now) records }
 {
-    let mut next = records;
-    let mut i: usize = 256;
-    while 0 < i {
-        i -= 1;
-        let r = next[i];
-        next[i] = batched(much, r, hour, paths, places, prices);
+    for r in &mut records {
+        *r = listing.batched(much, *r);
     }
-    next
+    records
 }
 
 // Once the message by itself is not turned away: refusal 11, or the batch removed, or moved.
@@ -78,7 +54,13 @@ pub fn close(
     ensures { result ≡ closed_by account hour paths.now prices.now records }
 {
     let listed = closings::listed(paths);
-    let batch = seen(records, hour, paths, &listed.places, prices);
+    let listing = Listing {
+        hour,
+        paths,
+        prices,
+        places: &listed.places,
+    };
+    let batch = seen(&records, listing);
     // Each pending bid is listed, and as many are listed as are pending: then these are those.
     if !(batch.listed & (0 < batch.count) & (batch.count == paths.len() as u64)) {
         return Closed {
@@ -93,7 +75,7 @@ pub fn close(
     }
     let held = account.held + batch.cents;
     let much = account.support < held;
-    let next = written(records, much, hour, paths, &listed.places, prices);
+    let next = written(records, much, listing);
     if much {
         return Closed {
             records: next,

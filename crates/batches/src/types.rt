@@ -3,7 +3,7 @@ use credit::types::Account;
 use records::types::Record;
 use refusals::Answer;
 
-// What the places passed so far bring to a batch, from the last one on.
+// What the places passed so far bring to a batch.
 #[derive(Clone, Copy)]
 pub struct Batch {
     // How many bids are pending at the hour.

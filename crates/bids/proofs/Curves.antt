@@ -1,15 +1,15 @@
 -- What it means that no row refuses a bid: its points are a curve, and its amounts are in their ranges.
 -- Assumes nothing.
-use mathlib.Core.Path.{◌≡◌, refl, sym, ap, subst, ◌∙◌}
+use mathlib.Core.Path.{◌≡◌, refl, sym, ap, ◌∙◌}
 use mathlib.Core.Bool.{Bool, true, false, not, cond, ◌&&◌}
 use mathlib.Core.List.{List, [], ◌∷◌}
-use Prim.Native.Nat.{ℕ, zero, suc, ◌*◌, ◌≤◌, zero-le}
+use Prim.Native.Nat.{ℕ, ◌*◌, ◌≤◌, zero-le}
 use native.Mathlib.Nat.{max-le}
 use native.Mathlib.Omega.{arith}
 use lib.Dec.{leb, eqb}
 use lib.IntN.{ℤ, pos, neg_ℤ, ◌*ℤ◌}
 use lib.Signed.{le_z}
-use lib.ListN.{length, get_or}
+use lib.ListN.{length}
 use borrow.Author.Tests.{not-true, not-false, leb-true, le-leb, eqb-true}
 use Rattle.amounts.specs.Amount.{up, Range}
 use Rattle.amounts.specs.Limits.{between, is_point_mwh, is_price}
@@ -21,19 +21,11 @@ use Rattle.kinds.specs.declared.Rules.{Rules}
 use Rattle.kinds.specs.Kinds.{quarter_hour, virtual, is_kind, has_one_curve, kind_row, unless_exempt, rules_of, import_rules, export_rules, hour_ahead_rules, wheel_rules, differential_fits, bid_mwh_fits, pending_fits}
 use Rattle.kinds.proofs.ByKind.{by-kind, by-rules, rules-1, rules-2, rules-3, rules-4, rules-5, rules-6}
 use Rattle.kinds.proofs.Fits.{pending-range, exempt-range, differential-small}
-use Rattle.bids.specs.Points.{Point, curve, largest_mwh, total_mwh, share, mwh_at, Exposure, tried, exposure, wheel_exposure}
+use Rattle.bids.specs.Points.{Point, curve, largest_mwh, total_mwh, mwh_at, Exposure, tried, exposure, wheel_exposure}
 use Rattle.bids.specs.Bids.{import_bid, export_bid, hour_ahead_bid, bid_mwh, bid_requirement}
 use Rattle.bids.specs.Rows.{point_rows, bid_rows}
 use Rattle.bids.specs.Entries.{bid_verdict}
-use Rattle.bids.proofs.Walks.{point_at}
 use Rattle.bids.proofs.Largest.{exposure-only}
-
--- where each element passes a test, so does what stands at any place, if what is read past the end does
-every-at : {A : Type 0} (p : A → Bool) (d : A) → p d ≡ true → (xs : List A) → every p xs ≡ true → (k : ℕ) → p (get_or xs k d) ≡ true
-unfolding every
-every-at p d h [] e k = h
-every-at p d h (x ∷ xs) e zero = and_left (p x) (every p xs) e
-every-at p d h (x ∷ xs) e (suc k) = every-at p d h xs (and_right (p x) (every p xs) e) k
 
 -- ---- rows
 
@@ -66,23 +58,10 @@ fit {ms} {ps} h =
       prices = not-false (every is_price ps) h.1.1.0;
     }
 
--- the point at a place
-pub fit-point : {ms : List ℕ} {ps : List ℤ} → Fit ms ps → (k : ℕ) {q : Point} → q ≡ point_at ms ps k → (is_point_mwh q.mwh ≡ true) × (is_price q.price ≡ true)
-fit-point {ms} {ps} f k e =
-    (ap (λ (q : Point). is_point_mwh q.mwh) e ∙ every-at is_point_mwh 0 refl ms f.mwhs k, ap (λ (q : Point). is_price q.price) e ∙ every-at is_price (pos 0) refl ps f.prices k)
-
-pub fit-mwh : {ms : List ℕ} {ps : List ℤ} → Fit ms ps → (k : ℕ) → get_or ms k 0 ≤ 10000
-fit-mwh {ms} f k = leb-true (get_or ms k 0) 10000 (every-at is_point_mwh 0 refl ms f.mwhs k)
-
+-- what a test leaves of a number
 shared : (t : Bool) {m k : ℕ} → m ≤ k → cond t m 0 ≤ k
 shared true h = h
 shared false h = zero-le
-
-pub fit-share : {ms : List ℕ} {ps : List ℤ} → Fit ms ps → (k p : ℕ) {q : Point} → q ≡ point_at ms ps k → share p q ≤ 10000
-fit-share {ms} {ps} f k p e = subst (λ (q : Point). share p q ≤ 10000) (sym e) (shared (le_z (pos p) (get_or ps k (pos 0))) (fit-mwh f k))
-
-pub fit-tried : {ms : List ℕ} {ps : List ℤ} → Fit ms ps → (k : ℕ) {q : Point} → q ≡ point_at ms ps k → up q.price ≤ 1000000
-fit-tried f k {q} e = (range-true 1000000 1000000 q.price (fit-point f k e).1).high
 
 pub fit-bid : (kind : ℕ) (ms : List ℕ) (ps : List ℤ) (d : ℕ) → None (bid_rows kind ms ps d) → None (point_rows ms ps) × (differential_fits (rules_of kind) d ≡ true)
 unfolding None bid_rows

@@ -1,6 +1,5 @@
 pub mod Largest
-pub mod Walks
-pub mod Prices
+pub mod Chains
 pub mod Curves
 pub mod Joining
 pub mod Lists

@@ -1,18 +1,20 @@
 -- The table of listed paths: one path more, and what an entry says of the list.
 -- Assumes nothing.
-use mathlib.Core.Path.{◌≡◌, refl, sym, ap, ◌∙◌}
+use mathlib.Core.Path.{◌≡◌, refl, sym, ap, subst, ◌∙◌}
 use mathlib.Core.Bool.{Bool, true, false, not, cond, ◌&&◌, ◌||◌}
-use mathlib.Core.List.{List, [], ◌∷◌}
+use mathlib.Core.List.{List, [], ◌∷◌, ◌++◌}
 use Prim.Native.Nat.{ℕ, zero, suc, ◌+◌, ◌*◌, ◌-◌, ◌/◌, ◌%◌, ◌<◌, ◌≤◌}
+use native.Mathlib.Nat.{le_refl}
 use native.Mathlib.Omega.{arith}
 use lib.Dec.{leb, eqb}
 use lib.IntN.{ℤ, pos}
-use lib.ListN.{length, get_or, set, drop, replicate, get_or-replicate, length-replicate, get_or-eq_default}
-use lib.Seq.{get_or-set_same, get_or-set_other, drop-length}
+use lib.ListN.{length, get_or, set, take, drop, replicate, get_or-replicate, length-replicate, get_or-eq_default, length-set}
+use lib.Seq.{get_or-set_same, get_or-set_other, drop-length, drop-cons}
+use Rattle.std.proofs.Common.{add-one, length-append}
+use Rattle.std.proofs.lemmas.List.{take_all, take-append-le, take-take, get_or-take, get_or-append_right}
 use borrow.Author.Tests.{eqb-true, eqb-false, eq-eqb, ne_eqb, leb-true}
 use Rattle.amounts.specs.Lists.{every}
 use Rattle.amounts.proofs.Signed.{tested}
-use Rattle.amounts.proofs.Walks.{drop-back}
 use Rattle.distinct.specs.Numbers.{stands_in}
 use Rattle.refusals.proofs.Laws.{and_left, and_right, and_both, never}
 use Rattle.kinds.specs.Kinds.{quarter_hour, by_kind, rules_of, is_path}
@@ -33,9 +35,12 @@ pub path-range : (path : ℕ) → is_path (rules_of quarter_hour) path ≡ true 
 unfolding rules_of by_kind
 path-range path h = (leb-true 1 path (and_left (leb 1 path) (leb path 999) h), leb-true path 999 (and_right (leb 1 path) (leb path 999) h))
 
--- past the end a list reads 0
-pub paths-low : (paths : List ℕ) → every (is_path (rules_of quarter_hour)) paths ≡ true → (k : ℕ) → get_or paths k 0 ≤ 999
-paths-low paths h k = every-at (λ (n : ℕ). n ≤ 999) (is_path (rules_of quarter_hour)) 0 (omega arith) (λ n e. (path-range n e).1) paths h k
+-- what is at a place of the list
+paths-low-at : (paths : List ℕ) → every (is_path (rules_of quarter_hour)) paths ≡ true → (k path : ℕ) → k < length paths → path ≡ get_or paths k path → path ≤ 999
+unfolding every
+paths-low-at [] h k path lt e = absurd (omega arith)
+paths-low-at (p ∷ ps) h zero path lt e = rw e (path-range p (and_left (is_path (rules_of quarter_hour) p) (every (is_path (rules_of quarter_hour)) ps) h)).1
+paths-low-at (p ∷ ps) h (suc k) path lt e = paths-low-at ps (and_right (is_path (rules_of quarter_hour) p) (every (is_path (rules_of quarter_hour)) ps) h) k path (omega arith) e
 
 -- ---- where a path stands
 place-by : (path p : ℕ) (ps : List ℕ) (b : Bool) → (b || stands_in path ps) ≡ true → (stands_in path ps ≡ true → place_of path ps < length ps) → cond b 0 (place_of path ps + 1) < suc (length ps)
@@ -87,49 +92,101 @@ pub record Entered (paths table : List ℕ) (i : ℕ) : Type 0 where
   pub size : length table ≡ 1024
   pub entry : (path : ℕ) → path < 1024 → get_or table path 0 ≡ slot i path (drop i paths)
 
-module _ (paths table : List ℕ) (i : ℕ) (more : 0 < i) (within : i ≤ length paths) (e : Entered paths table i) where
-  abbrev here : ℕ
-  here = get_or paths (i - 1) 0
+-- what `rev` has left is the front of the list
+pub record Front {A : Type 0} (xs left : List A) : Type 0 where
+  pub few : length left ≤ length xs
+  pub same : left ≡ take (length left) xs
 
+pub front_all : {A : Type 0} (xs : List A) → Front xs xs
+front_all xs = record { few = le_refl (length xs); same = sym (take_all (length xs) xs (le_refl (length xs))) }
+
+-- one step back: x is what stands after those that are then left
+pub record Back {A : Type 0} (xs left rest : List A) (x : A) : Type 0 where
+  pub long : length left ≡ length rest + 1
+  pub front : Front xs rest
+  pub is : x ≡ get_or xs (length rest) x
+
+pub back : {A : Type 0} (xs left rest : List A) (x : A) → Front xs left → left ≡ rest ++ (x ∷ []) → Back xs left rest x
+back xs left rest x l e =
+    let n = length rest in
+    let one : length left ≡ n + 1 = ap length e ∙ length-append rest (x ∷ []) in
+    let zeroth : n - n ≡ 0 = omega arith in
+    let same : rest ++ (x ∷ []) ≡ take (n + 1) xs = sym e ∙ l.same ∙ ap (λ k. take k xs) one in
+    record {
+      long = one;
+      front = record { few = omega (arith, l.few); same = sym (take_all n rest (le_refl n)) ∙ sym (take-append-le n rest (x ∷ []) (le_refl n)) ∙ ap (take n) same ∙ take-take n (n + 1) xs (omega arith) };
+      is = sym (get_or-append_right rest (x ∷ []) n n x refl (le_refl n) ∙ ap (λ k. get_or (x ∷ []) k x) zeroth) ∙ ap (λ l. get_or l n x) same ∙ get_or-take (n + 1) xs n x (omega arith);
+    }
+
+module _ (paths table : List ℕ) (n here : ℕ) (within : n < length paths) (is : here ≡ get_or paths n here) (e : Entered paths table (n + 1)) where
   abbrev rest : List ℕ
-  rest = drop i paths
+  rest = drop (n + 1) paths
 
-  back : drop (i - 1) paths ≡ here ∷ rest
-  back = drop-back paths i 0 more within
+  stands : drop n paths ≡ here ∷ rest
+  stands = drop-cons paths n here within ∙ sym (λ j. is j ∷ drop (add-one n j) paths)
 
-  same : i - 1 + 1 ≡ i
-  same = omega arith
-
-  pub enter : here < 1024 → length (set table here (i - 1 + 1)) ≡ 1024 → Entered paths (set table here (i - 1 + 1)) (i - 1)
-  enter low size =
+  pub enter : (i : ℕ) → i ≡ n → here < 1024 → length (set table here (i + 1)) ≡ 1024 → Entered paths (set table here (i + 1)) n
+  enter i at low size =
       record {
         size = size;
         entry = λ path lt. tested (eqb path here)
             (λ q. let p : path ≡ here = eqb-true path here q in
-            ap (λ (n : ℕ). get_or (set table here (i - 1 + 1)) n 0) p ∙ get_or-set_same table here (i - 1 + 1) 0 (omega (arith, e.size))
-            ∙ sym (slot-first (i - 1) path here rest p) ∙ ap (slot (i - 1) path) (sym back))
+            ap (λ (k : ℕ). get_or (set table here (i + 1)) k 0) p ∙ get_or-set_same table here (i + 1) 0 (omega (arith, e.size)) ∙ ap (λ (k : ℕ). k + 1) at
+            ∙ sym (slot-first n path here rest p) ∙ ap (slot n path) (sym stands))
             (λ q. let p : path ≡ here → ⊥ = eqb-false path here q in
-            get_or-set_other table here path (i - 1 + 1) 0 p ∙ e.entry path lt ∙ ap (λ (n : ℕ). slot n path rest) (sym same)
-            ∙ sym (slot_next (i - 1) path here rest p) ∙ ap (slot (i - 1) path) (sym back));
+            get_or-set_other table here path (i + 1) 0 p ∙ e.entry path lt
+            ∙ sym (slot_next n path here rest p) ∙ ap (slot n path) (sym stands));
       }
 
   -- a path is listed again exactly where the table has it already
-  pub once_more : (once : Bool) → once ≡ each_once rest → here < 1024 → (eqb (get_or table here 0) 0 && once) ≡ each_once (drop (i - 1) paths)
+  pub once_more : (once : Bool) → once ≡ each_once rest → here < 1024 → (eqb (get_or table here 0) 0 && once) ≡ each_once (drop n paths)
   unfolding each_once
   once_more once o low =
-      (λ j. eqb (e.entry here low j) 0 && o j) ∙ ap (λ (b : Bool). b && each_once rest) (slot-none i here rest) ∙ ap each_once (sym back)
+      (λ j. eqb (e.entry here low j) 0 && o j) ∙ ap (λ (b : Bool). b && each_once rest) (slot-none (n + 1) here rest) ∙ ap each_once (sym stands)
 
--- before the last path, and the whole list
-pub begun : (paths : List ℕ) → Entered paths (replicate {A = ℕ} 1024 0) (length paths)
-unfolding stands_in
+-- what the walk has: of the paths but those that are left
+pub record Walked (paths table : List ℕ) (seen : Bool) (left : List ℕ) : Type 0 where
+  pub front : Front paths left
+  pub entered : Entered paths table (length left)
+  pub once : seen ≡ each_once (drop (length left) paths)
+
+-- before the last path
+pub begun : (paths : List ℕ) → Walked paths (replicate {A = ℕ} 1024 0) true paths
+unfolding stands_in each_once
 begun paths =
     record {
-      size = length-replicate {A = ℕ} 1024 0;
-      entry = λ path lt. get_or-replicate {A = ℕ} 1024 path 0 0 lt ∙ ap (slot (length paths) path) (sym (drop-length paths));
+      front = front_all paths;
+      entered = record {
+        size = length-replicate {A = ℕ} 1024 0;
+        entry = λ path lt. get_or-replicate {A = ℕ} 1024 path 0 0 lt ∙ ap (slot (length paths) path) (sym (drop-length paths));
+      };
+      once = ap each_once (sym (drop-length paths));
     }
 
-pub entered_all : (paths table : List ℕ) → Entered paths table 0 → Lists paths table
-entered_all paths table e = record { size = e.size; entry = e.entry }
+module _ (paths table : List ℕ) (seen : Bool) (left rest : List ℕ) (here : ℕ) (fit : every (is_path (rules_of quarter_hour)) paths ≡ true) (w : Walked paths table seen left) (e : left ≡ rest ++ (here ∷ [])) where
+  abbrev step : Back paths left rest here
+  step = back paths left rest here w.front e
+
+  pub here_low : here < 1024
+  here_low = let low = paths-low-at paths fit (length rest) here (omega (arith, step.long, w.front.few)) step.is in omega arith
+
+  pub walked_more : (i : ℕ) → i ≡ length rest → Walked paths (set table here (i + 1)) (eqb (get_or table here 0) 0 && seen) rest
+  walked_more i at =
+      let s = step in
+      let entered = subst (Entered paths table) s.long w.entered in
+      record {
+        front = s.front;
+        entered = enter paths table (length rest) here (omega (arith, s.long, w.front.few)) s.is entered i at here_low (length-set table here (i + 1) ∙ w.entered.size);
+        once = once_more paths table (length rest) here (omega (arith, s.long, w.front.few)) s.is entered seen (w.once ∙ ap (λ k. each_once (drop k paths)) s.long) here_low;
+      }
+
+-- before the first path
+module _ (paths table : List ℕ) (seen : Bool) (left : List ℕ) (none : length left ≡ 0) (w : Walked paths table seen left) where
+  pub walked_lists : Lists paths table
+  walked_lists = let e = subst (Entered paths table) none w.entered in record { size = e.size; entry = e.entry }
+
+  pub walked_once : seen ≡ each_once paths
+  walked_once = w.once ∙ ap (λ k. each_once (drop k paths)) none
 
 -- ---- what an entry says
 module _ (paths table : List ℕ) (l : Lists paths table) (path : ℕ) (low : path < 1024) where

@@ -18,13 +18,7 @@ fn paths_in_range(paths: &[u64]) -> bool
         number: Kind::QUARTER_HOUR_EXPORT,
     }
     .rules();
-    let mut fit = true;
-    let mut i = paths.len();
-    while 0 < i {
-        i -= 1;
-        fit = rules.is_path(paths[i]) & fit;
-    }
-    fit
+    paths.iter().all(|&path| rules.is_path(path))
 }
 
 // Each path's place, and whether each is listed once, in one walk over the list.
@@ -36,10 +30,8 @@ pub fn listed(paths: &[u64]) -> Listed
     let mut places = [0u64; 1_024];
     let mut once = true;
     // From the end, so that the first of a path's places stays.
-    let mut i = paths.len();
-    while 0 < i {
-        i -= 1;
-        let path = paths[i] as usize;
+    for (i, &path) in paths.iter().enumerate().rev() {
+        let path = path as usize;
         once = (places[path] == 0) & once;
         places[path] = i as u64 + 1;
     }
@@ -62,11 +54,7 @@ pub fn check_close(hour: u64, paths: &[u64], prices: &[i64]) -> Result<(), Refus
 fn price_at(prices: &[i64], i: u64) -> i64
     ensures { result ≡ get_or prices.now i (pos 0) }
 {
-    if i < prices.len() as u64 {
-        prices[i as usize]
-    } else {
-        0
-    }
+    prices.get(i as usize).copied().unwrap_or(0)
 }
 
 // The four prices of the path at a place of the list, 0 past its end.

@@ -70,14 +70,7 @@ fn interval_mwh(from: u64, count: u64, mwh: &[u64]) -> u64
     requires count_in_bounds { from + count ≤ length mwh.now }
     ensures { result ≡ interval_mwh from count mwh.now }
 {
-    let mut sum: u64 = 0;
-    // From the end, as the sum recurses.
-    let mut i = count;
-    while 0 < i {
-        i -= 1;
-        sum = mwh[(from + i) as usize] + sum;
-    }
-    sum
+    mwh[from as usize..(from + count) as usize].iter().sum()
 }
 
 fn sums(counts: Counts, mwh: &[u64]) -> Intervals

@@ -1,63 +1,71 @@
--- A walk over all places from the end: those passed are in range, and the sums are theirs.
+-- A walk over all places: those passed are in range, and the sums are theirs.
 -- Assumes nothing.
-use mathlib.Core.Path.{◌≡◌, sym, ap, ◌∙◌, subst}
-use mathlib.Core.Bool.{Bool, true, false, cond, ◌&&◌}
-use mathlib.Core.List.{List, []}
-use Prim.Native.Nat.{ℕ, ◌-◌, ◌<◌, ◌≤◌}
+use mathlib.Core.Path.{◌≡◌, refl, sym, ap, ◌∙◌, subst}
+use mathlib.Core.Bool.{Bool, true, false, cond}
+use mathlib.Core.List.{List, [], ◌∷◌, ◌++◌}
+use Prim.Native.Nat.{ℕ, ◌+◌, ◌<◌}
 use native.Mathlib.Omega.{arith}
-use lib.ListN.{length, get_or, drop, length-drop}
-use lib.Seq.{drop-length}
+use lib.ListN.{length, get_or, take}
+use Rattle.std.proofs.lemmas.List.{take_more, take_all, length-take}
 use Rattle.amounts.specs.Lists.{sum, every}
+use Rattle.amounts.proofs.Signed.{tested}
+use Rattle.amounts.proofs.Sums.{total-push}
+use Rattle.refusals.proofs.Laws.{and_left, and_right, and_both, never}
 use Rattle.records.specs.declared.types.Record.{Record}
 use Rattle.records.specs.Records.{blank, ok_place}
+use Rattle.records.proofs.Places.{ok-blank}
 use Rattle.credit.specs.declared.types.Sums.{Sums}
-use Rattle.credit.specs.Sums.{no_sums, sums_of, with_record}
+use Rattle.credit.specs.Credit.{owes}
+use Rattle.credit.specs.Sums.{unbilled_of, no_sums, sums_of, with_record}
 use Rattle.credit.specs.NoOverflow.{SumsWithin}
 use Rattle.walk.specs.Summing.{sums_in}
-use Rattle.walk.proofs.Sums.{sums-within, sums-back, every_back, every_drop}
+use Rattle.walk.proofs.Sums.{sums-within, every_get}
+
+-- one element more
+every_push : {A : Type 0} (p : A → Bool) (xs : List A) (x : A) → every p xs ≡ true → p x ≡ true → every p (xs ++ (x ∷ [])) ≡ true
+unfolding every
+every_push p [] x e h = and_both (p x) true h refl
+every_push p (y ∷ ys) x e h = and_both (p y) (every p (ys ++ (x ∷ []))) (and_left (p y) (every p ys) e) (every_push p ys x (and_right (p y) (every p ys) e) h)
+
+sums-push : (rs : List Record) (r : Record) → sums_of (rs ++ (r ∷ [])) ≡ with_record (sums_of rs) r
+sums-push rs r = λ i. record { unbilled = total-push unbilled_of rs r i; owed = total-push owes rs r i }
 
 pub record Summed (rs : List Record) (s : Sums) (i : ℕ) : Type 0 where
-  pub within : i ≤ 256
-  pub fine : every ok_place (drop i rs) ≡ true
-  pub sums : s ≡ sums_of (drop i rs)
+  pub fine : every ok_place (take i rs) ≡ true
+  pub sums : s ≡ sums_of (take i rs)
 
-none : (rs : List Record) → length rs ≡ 256 → [] ≡ drop 256 rs
-none rs few = sym (drop-length rs) ∙ ap (λ (n : ℕ). drop n rs) few
-
--- before the last place
-pub begun : (rs : List Record) → length rs ≡ 256 → (s : Sums) → s ≡ no_sums → Summed rs s 256
+-- before the first place
+pub begun : (rs : List Record) (s : Sums) → s ≡ no_sums → Summed rs s 0
 unfolding every sum
-begun rs few s e =
-    let p = none rs few in
-    record { within = omega arith; fine = sym (ap (every ok_place) p); sums = e ∙ ap sums_of p }
+begun rs s e = record { fine = refl; sums = e }
 
--- the place at hand, and those from it on
-module _ (rs : List Record) (few : length rs ≡ 256) (s : Sums) (i : ℕ) (h : 0 < i) (w : Summed rs s i) where
+-- the place at hand, and those before it
+module _ (rs : List Record) (few : length rs ≡ 256) (i : ℕ) (h : i < 256) where
   abbrev here : Record
-  here = get_or rs (i - 1) blank
-
-  le : i ≤ length rs
-  le = omega (arith, w.within, few)
-
-  all_of : every ok_place (drop (i - 1) rs) ≡ (ok_place here && every ok_place (drop i rs))
-  all_of = every_back ok_place rs i blank h le
+  here = get_or rs i blank
 
   pub none_in : ok_place here ≡ false → no_sums ≡ sums_in rs
   unfolding sums_in
-  none_in bad = ap (λ (t : Bool). cond t (sums_of rs) no_sums) (sym (every_drop ok_place rs (i - 1) (all_of ∙ rw bad)))
+  none_in bad =
+      tested (every ok_place rs)
+      (λ e. never (sym bad ∙ every_get ok_place rs i ok-blank e))
+      (λ e. sym (ap (λ (t : Bool). cond t (sums_of rs) no_sums) e))
 
-  pub light : SumsWithin 332800000000000 s
-  light = subst (SumsWithin 332800000000000) (sym w.sums) (sums-within (drop i rs) w.fine (omega (arith, few, length-drop i rs)))
+  module _ (s : Sums) (w : Summed rs s i) where
+    pub light : SumsWithin 332800000000000 s
+    light = subst (SumsWithin 332800000000000) (sym w.sums) (sums-within (take i rs) w.fine (omega (arith, few, length-take i rs)))
 
-  pub more : ok_place here ≡ true → (t : Sums) → t ≡ with_record s here → Summed rs t (i - 1)
-  more ok t e =
-      record {
-        within = omega (arith, w.within);
-        fine = all_of ∙ rw (ok, w.fine);
-        sums = e ∙ ap (λ (x : Sums). with_record x here) w.sums ∙ sums-back rs i h le;
-      }
+    pub more : ok_place here ≡ true → (t : Sums) → t ≡ with_record s here → Summed rs t (i + 1)
+    more ok t e =
+        let one : take (i + 1) rs ≡ take i rs ++ (here ∷ []) = take_more rs i blank (omega (arith, few)) in
+        record {
+          fine = ap (every ok_place) one ∙ every_push ok_place (take i rs) here w.fine ok;
+          sums = e ∙ ap (λ (x : Sums). with_record x here) w.sums ∙ sym (sums-push (take i rs) here) ∙ ap sums_of (sym one);
+        }
 
--- past the first place
-pub ended : (rs : List Record) (s : Sums) → Summed rs s 0 → s ≡ sums_in rs
+-- past the last place
+pub ended : (rs : List Record) → length rs ≡ 256 → (s : Sums) → Summed rs s 256 → s ≡ sums_in rs
 unfolding sums_in
-ended rs s w = w.sums ∙ ap (λ (t : Bool). cond t (sums_of rs) no_sums) (sym w.fine)
+ended rs few s w =
+    let all : take 256 rs ≡ rs = take_all 256 rs (omega (arith, few)) in
+    w.sums ∙ ap sums_of all ∙ ap (λ (t : Bool). cond t (sums_of rs) no_sums) (sym (sym (ap (every ok_place) all) ∙ w.fine))

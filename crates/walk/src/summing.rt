@@ -10,15 +10,11 @@ pub fn sums_of(records: [Record; 256]) -> Sums
     ensures { result ≡ sums_in records }
 {
     let mut sums = Sums::none();
-    // From the end, as the sums recurse.
-    let mut i: usize = 256;
-    while 0 < i {
-        i -= 1;
-        let r = records[i];
-        if !r.is_sound() {
+    for record in &records {
+        if !record.is_sound() {
             return Sums::none();
         }
-        sums = sums.with(r);
+        sums = sums.with(*record);
     }
     sums
 }

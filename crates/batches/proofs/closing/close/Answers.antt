@@ -45,11 +45,12 @@ module _ (account : Account) (hour : ℕ) (paths : List ℕ) (prices : List ℤ)
 pub listed-listed-requires : goal.listed-listed-requires
 listed-listed-requires c = (close-fits c.args.hour c.args.paths.now c.args.prices.now c.requires.none).paths-fit
 
-pub seen-batch-requires-clause-prices_len : goal.seen-batch-requires-clause-prices_len
-seen-batch-requires-clause-prices_len c = (close-fits c.args.hour c.args.paths.now c.args.prices.now c.requires.none).four
-
-pub written-next-requires-clause-prices_len : goal.written-next-requires-clause-prices_len
-written-next-requires-clause-prices_len c = (close-fits c.args.hour c.args.paths.now c.args.prices.now c.requires.none).four
+pub invariant_of-listing : goal.invariant_of-listing
+invariant_of-listing c =
+    record {
+      lists = c.listed-listed.ensures.places;
+      prices_len = (close-fits c.args.hour c.args.paths.now c.args.prices.now c.requires.none).four;
+    }
 
 pub returns-then-not-batch-paths : goal.returns-then-not-batch-paths
 returns-then-not-batch-paths c =

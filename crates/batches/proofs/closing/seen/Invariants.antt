@@ -2,8 +2,5 @@
 use Rattle.batches.proofs.Walked.{Passed}
 use Rattle.batches.proofs.closing.seen.Given as goal
 
-abbrev pub invariant-loop-i : goal.invariant-loop-i
-invariant-loop-i l = Passed l.hour l.paths l.prices l.records l.batch l.i
-
-abbrev pub decreases-loop-i : goal.decreases-loop-i
-decreases-loop-i l = l.i
+abbrev pub invariant-loop-r : goal.invariant-loop-r
+invariant-loop-r l = Passed l.fn.listing.hour l.fn.listing.paths.now l.fn.listing.prices.now l.fn.records l.batch l.r-index

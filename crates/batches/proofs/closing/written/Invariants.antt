@@ -3,8 +3,5 @@ use Rattle.batches.specs.Batches.{batched}
 use Rattle.batches.proofs.Walked.{Done}
 use Rattle.batches.proofs.closing.written.Given as goal
 
-abbrev pub invariant-loop-i : goal.invariant-loop-i
-invariant-loop-i l = Done (batched l.much l.hour l.paths l.prices) l.initial.next l.next l.i
-
-abbrev pub decreases-loop-i : goal.decreases-loop-i
-decreases-loop-i l = l.i
+abbrev pub invariant-loop-r : goal.invariant-loop-r
+invariant-loop-r l = Done (batched l.fn.much l.fn.listing.hour l.fn.listing.paths.now l.fn.listing.prices.now) l.fn.records l.r-items l.r-index

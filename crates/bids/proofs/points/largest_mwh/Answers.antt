@@ -1,26 +1,17 @@
--- `points::largest_mwh`: `most` is the largest of the points passed.
-use mathlib.Core.Path.{sym, ap, ◌∙◌}
-use Prim.Native.Nat.{max}
-use native.Mathlib.Omega.{arith}
-use Rattle.bids.specs.Points.{largest_mwh}
-use Rattle.bids.proofs.Curves.{fit}
-use Rattle.bids.proofs.Walks.{rest-none, rest-step}
+-- `points::largest_mwh`: the chain's largest is that over the curve.
+use mathlib.Core.Path.{ap, sym, ◌∙◌}
+use Prim.Native.Nat.{ℕ}
+use lib.IntN.{ℤ}
+use Rattle.std.proofs.Common.{rules, tests}
+use Rattle.std.specs.Option.{unwrap_or}
+use Rattle.std.proofs.lemmas.Iterator.{YieldsList-from_map}
+use Rattle.std.proofs.lemmas.Iterator.Adapters.{option_map_id}
+use Rattle.std.proofs.lemmas.Iterator.Consumers.{YieldsList-at, max_from_yields_List}
+use Rattle.bids.proofs.Chains.{pairs, largest-zip}
 use Rattle.bids.proofs.points.largest_mwh.Goals as goal
 
-pub loop-i-init : goal.loop-i-init
-unfolding largest_mwh
-loop-i-init c = (omega arith, ap largest_mwh (sym (rest-none c.args.mwh.now c.args.prices.now)))
-
-pub point-requires : goal.point-requires
-point-requires c = let f = fit c.requires in omega arith
-
-pub loop-i-preserved : goal.loop-i-preserved
-unfolding largest_mwh
-loop-i-preserved c =
-    let at = c in
-    let s = at in
-    let q = c.point.result in (
-      omega arith,
-      c.larger-most.ensures ∙ ap (max q.mwh) at.loop-i.invariant.1
-          ∙ rest-step largest_mwh s.args.mwh.now s.args.prices.now at.loop-i.i (omega arith) (omega arith) (fit s.requires).equal c.point.ensures,
-    )
+pub returns : goal.returns
+returns c =
+    let most = max_from_yields_List c.map.result c.max.result c.max.ensures.ran
+    (YieldsList-from_map _ (λ (z : ℕ × ℤ). z.0) (YieldsList-at c.map.ensures.source (pairs c.args.mwh.now c.args.prices.now (cc) (cc))) c.map.ensures.closure (λ x r q k. search (rules, tests))) in
+    c.unwrap_or.ensures ∙ ap (λ o. unwrap_or o 0) (sym (option_map_id c.max.result) ∙ most) ∙ largest-zip c.args.mwh.now c.args.prices.now

@@ -1,36 +1,25 @@
--- `points::mwh_at_or_above`: `sum` is that of the points passed, and there is room for the rest.
-use mathlib.Core.Path.{sym, ap}
-use Prim.Native.Nat.{◌≤◌, ◌-◌}
+-- `points::mwh_at_or_above`: the chain's sum is that over the curve, and it is small.
+use mathlib.Core.Path.{◌∙◌}
+use Prim.Native.Nat.{ℕ}
 use native.Mathlib.Omega.{arith}
-use Rattle.bids.specs.Points.{mwh_at}
-use Rattle.bids.proofs.Curves.{fit, fit-share}
-use Rattle.bids.proofs.Walks.{rest-none, rest-step}
+use lib.IntN.{ℤ}
+use Rattle.std.proofs.Common.{rules, tests}
+use Rattle.std.specs.List.{zip}
+use Rattle.std.proofs.lemmas.Iterator.{YieldsList-from_map}
+use Rattle.std.proofs.lemmas.Iterator.Consumers.{YieldsList-at, sum_by_from_yields_List, fits_by_from_yields_list}
+use Rattle.bids.specs.Points.{share}
+use Rattle.bids.proofs.Chains.{point_of, pairs, mwh_at-zip}
+use Rattle.bids.proofs.Curves.{fit, mwh_at-small}
 use Rattle.bids.proofs.points.mwh_at_or_above.Goals as goal
 
-pub loop-i-init : goal.loop-i-init
-unfolding mwh_at
-loop-i-init c =
-    let s = c in
-    let f = fit s.requires in
-    (omega arith, (omega arith, ap (mwh_at s.args.p) (sym (rest-none s.args.mwh.now s.args.prices.now))))
+pub sum-requires-clause-fits : goal.sum-requires-clause-fits
+sum-requires-clause-fits c =
+    fits_by_from_yields_list (λ (z : ℕ × ℤ). share c.args.p (point_of z)) (zip c.args.mwh.now c.args.prices.now) c.map.result _
+    (YieldsList-from_map _ (λ (z : ℕ × ℤ). share c.args.p (point_of z)) (YieldsList-at c.map.ensures.source (pairs c.args.mwh.now c.args.prices.now (cc) (cc))) c.map.ensures.closure (λ x r q k. search (rules, tests)))
+    (omega (arith, mwh_at-zip c.args.p c.args.mwh.now c.args.prices.now, mwh_at-small c.args.p (fit c.requires)))
 
-pub point-requires : goal.point-requires
-point-requires c = let f = fit c.requires in omega arith
-
--- the point at i - 1 brings at most 10,000 MWh
-small : (c : goal.After-share-sum) → c.share-sum.result ≤ 10000
-small c =
-    let l = c in
-    let s = l in
-    omega (arith, c.share-sum.ensures, fit-share (fit s.requires) (l.loop-i.i - 1) s.args.p c.point.ensures)
-
-pub overflow_add-sum : goal.overflow_add-sum
-overflow_add-sum c = omega (arith, small c)
-
-pub loop-i-preserved : goal.loop-i-preserved
-unfolding mwh_at
-loop-i-preserved c =
-    let at = c in
-    let s = at in
-    let e = rest-step (mwh_at s.args.p) s.args.mwh.now s.args.prices.now at.loop-i.i (omega arith) (omega arith) (fit s.requires).equal c.point.ensures in
-    omega (arith, small c, c.share-sum.ensures)
+pub returns : goal.returns
+returns c =
+    sum_by_from_yields_List (λ (z : ℕ × ℤ). share c.args.p (point_of z)) (zip c.args.mwh.now c.args.prices.now) c.map.result _ c.sum.ensures.ran
+    (YieldsList-from_map _ (λ (z : ℕ × ℤ). share c.args.p (point_of z)) (YieldsList-at c.map.ensures.source (pairs c.args.mwh.now c.args.prices.now (cc) (cc))) c.map.ensures.closure (λ x r q k. search (rules, tests)))
+    ∙ mwh_at-zip c.args.p c.args.mwh.now c.args.prices.now

@@ -1,30 +1,30 @@
--- `points::wheel_exposure`: `most` is the largest of the points passed, and not below 0.
-use mathlib.Core.Path.{sym, ap, ◌∙◌}
-use Prim.Native.Nat.{◌-◌}
+-- `points::wheel_exposure`: the largest of the points, and not below 0.
+use mathlib.Core.Path.{refl, ◌∙◌}
+use Prim.Native.Nat.{ℕ}
 use native.Mathlib.Omega.{arith}
+use lib.IntN.{ℤ, pos, neg_ℤ, ◌*ℤ◌}
+use Rattle.std.proofs.Common.{rules, tests, of_calls}
+use Rattle.std.proofs.lemmas.Iterator.{YieldsList-from_map}
+use Rattle.std.proofs.lemmas.Iterator.Adapters.{serves_from_places}
+use Rattle.std.proofs.lemmas.Iterator.Consumers.{YieldsList-at, fold_from_yields_List}
 use Rattle.amounts.specs.Amount.{max_of}
+use Rattle.amounts.specs.Limits.{is_point_mwh, is_price}
+use Rattle.amounts.proofs.Signed.{signed, larger-of}
 use Rattle.amounts.proofs.Steps.{back}
-use Rattle.bids.specs.Points.{wheel_exposure}
-use Rattle.bids.proofs.Curves.{fit, fit-point}
-use Rattle.bids.proofs.Walks.{rest-none, rest-step}
+use Rattle.bids.specs.Points.{curve, wheel_exposure}
+use Rattle.bids.proofs.Chains.{pairs, every-zip, wheel-zip}
+use Rattle.bids.proofs.Curves.{fit, wheel-small}
 use Rattle.bids.proofs.points.wheel_exposure.Goals as goal
 
-pub loop-i-init : goal.loop-i-init
-unfolding wheel_exposure
-loop-i-init c = (omega arith, ap wheel_exposure (sym (rest-none c.args.mwh.now c.args.prices.now)))
+pub fold-requires-clause-can : goal.fold-requires-clause-can
+fold-requires-clause-can c =
+    let f = fit c.requires in
+    (search of_calls, serves_from_places (YieldsList-at c.map.ensures.source (pairs c.args.mwh.now c.args.prices.now (cc) (cc))) (λ x q k. search rules) (λ x k lt e. let p = every-zip is_point_mwh is_price (x.0.now, x.1.now) c.args.mwh.now c.args.prices.now f.mwhs f.prices k lt e in search (rules, p.0, p.1)))
 
-pub point-requires : goal.point-requires
-point-requires c = let f = fit c.requires in omega arith
-
-pub wheel_cents-requires : goal.wheel_cents-requires
-wheel_cents-requires c = fit-point (fit c.requires) (c.loop-i.i - 1) c.point.ensures
-
-pub loop-i-preserved : goal.loop-i-preserved
-unfolding wheel_exposure
-loop-i-preserved c = (
-  omega arith,
-  back c.larger-most.result c.larger-most.type_inv
-      ∙ c.larger-most.ensures
-      ∙ (λ j. max_of ((back c.wheel_cents.result c.wheel_cents.type_inv ∙ c.wheel_cents.ensures) j) (c.loop-i.invariant.1 j))
-      ∙ rest-step wheel_exposure c.args.mwh.now c.args.prices.now c.loop-i.i (omega arith) (omega arith) (fit c.requires).equal c.point.ensures,
-)
+pub returns : goal.returns
+returns c =
+    let w = wheel_exposure (curve c.args.mwh.now c.args.prices.now) in
+    let is = fold_from_yields_List _ (λ (a z : ℤ). max_of z a) (pos 0) c.fold.result c.fold.ensures.ran
+    (YieldsList-from_map _ (λ (z : ℕ × ℤ). neg_ℤ (pos z.0 *ℤ z.1)) (YieldsList-at c.map.ensures.source (pairs c.args.mwh.now c.args.prices.now (cc) (cc))) c.map.ensures.closure (λ x r q k. search (rules, tests)))
+    (λ a x b q k. search (rules, tests)) in
+    back c.fold.result c.fold.type_inv ∙ is ∙ wheel-zip (pos 0) refl c.args.mwh.now c.args.prices.now ∙ omega (arith, signed, larger-of (pos 0) w, wheel-small (fit c.requires))

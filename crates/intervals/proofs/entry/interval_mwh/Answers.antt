@@ -1,24 +1,22 @@
--- `entry::interval_mwh`: `sum` is the sum of the points passed.
+-- `entry::interval_mwh`: the iterator's sum is the interval's, and it is small.
 use mathlib.Core.Path.{◌∙◌}
-use Prim.Native.Nat.{◌-◌}
 use native.Mathlib.Omega.{arith}
-use Rattle.intervals.proofs.Sums.{rest-none, rest-step, rest_all, rest-small}
+use lib.ListN.{take, drop}
+use Rattle.std.proofs.Common.{rules}
+use Rattle.std.proofs.lemmas.Iterator.{YieldsList-from_slice}
+use Rattle.std.proofs.lemmas.Iterator.Consumers.{sum_from_yields_List, fits_from_yields_list}
+use Rattle.intervals.proofs.Sums.{sum-interval, interval-small}
 use Rattle.intervals.proofs.entry.interval_mwh.Goals as goal
 
-pub loop-i-init : goal.loop-i-init
-loop-i-init c = (omega arith, rest-none c.args.from c.args.count c.args.mwh.now c.requires.count_in_bounds)
-
-pub overflow_add-sum-in-loop-i : goal.overflow_add-sum-in-loop-i
-overflow_add-sum-in-loop-i c =
-    let e = rest-step c.args.from c.args.count c.args.mwh.now c.requires.count_in_bounds c.loop-i.i (omega arith) (omega arith) in
-    omega (arith, rest-small c.args.from c.args.count c.args.mwh.now c.requires.mwh_value c.requires.count_bound (c.loop-i.i - 1))
-
-pub loop-i-preserved : goal.loop-i-preserved
-loop-i-preserved c =
-    let e = rest-step c.args.from c.args.count c.args.mwh.now c.requires.count_in_bounds c.loop-i.i (omega arith) (omega arith) in
-    (omega arith, omega arith)
+pub sum-requires-clause-fits : goal.sum-requires-clause-fits
+sum-requires-clause-fits c =
+    let s = c.args in
+    let r = c.requires in
+    fits_from_yields_list c.iter.result _ (YieldsList-from_slice (take s.count (drop s.from s.mwh.now)) (search rules))
+    (omega (arith, sum-interval s.from s.count s.mwh.now, interval-small s.from s.count s.mwh.now r.mwh_value r.count_bound))
 
 pub returns : goal.returns
 returns c =
     let s = c.args in
-    c.loop-i.invariant.1 ∙ rest_all s.from s.count s.mwh.now c.loop-i.i (omega arith)
+    sum_from_yields_List c.iter.result c.sum.result c.sum.ensures.ran (YieldsList-from_slice (take s.count (drop s.from s.mwh.now)) (search rules))
+    ∙ sum-interval s.from s.count s.mwh.now

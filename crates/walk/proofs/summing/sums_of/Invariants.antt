@@ -2,8 +2,5 @@
 use Rattle.walk.proofs.Summed.{Summed}
 use Rattle.walk.proofs.summing.sums_of.Given as goal
 
-abbrev pub invariant-loop-i : goal.invariant-loop-i
-invariant-loop-i l = Summed l.records l.sums l.i
-
-abbrev pub decreases-loop-i : goal.decreases-loop-i
-decreases-loop-i l = l.i
+abbrev pub invariant-loop-record : goal.invariant-loop-record
+invariant-loop-record l = Summed l.fn.records l.sums l.record-index

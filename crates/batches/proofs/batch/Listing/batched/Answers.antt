@@ -1,4 +1,4 @@
--- `batched`: by whether the bid is pending, and whether the batch is too much.
+-- `Listing::batched`: by whether the bid is pending, and whether the batch is too much.
 use mathlib.Core.Path.{◌≡◌, sym, ◌∙◌}
 use mathlib.Core.Bool.{Bool, true, false}
 use mathlib.Core.List.{List}
@@ -10,7 +10,7 @@ use Rattle.kinds.specs.Kinds.{posted_stage}
 use Rattle.records.specs.declared.types.Record.{Record}
 use Rattle.records.specs.Records.{advanced, is_pending}
 use Rattle.batches.specs.Batches.{closed_for, batched}
-use Rattle.batches.proofs.batch.batched.Goals as goal
+use Rattle.batches.proofs.batch.Listing.batched.Goals as goal
 
 pub returns-then-not-is_pending : goal.returns-then-not-is_pending
 unfolding batched
@@ -30,6 +30,6 @@ moved-is much hour paths prices r pending few p z e = rw (pending, few) (e ∙ (
 pub returns : goal.returns
 returns c =
     let a = c.args in
-    let cents = (kept (gave c.closed_cents.ensures) tt).is in
+    let cents = (kept (gave c.cents.ensures) tt).is in
     let pending = sym c.is_pending.ensures ∙ c.if-not-is_pending.false in
-    moved-is a.much a.hour a.paths.now a.prices.now a.r pending c.if-much.false (search rules) cents c.advanced.ensures
+    moved-is a.much a.self.hour a.self.paths.now a.self.prices.now a.r pending c.if-much.false (search rules) cents c.advanced.ensures
