@@ -86,7 +86,7 @@ impl BidAnswer {
 }
 
 // What a message answers: held and net owed, and its requirement or the number of the refusal.
-#[derive(Clone, Copy)]
+#[derive(Clone, Copy, PartialEq, Eq, Debug)]
 pub enum Answer {
     Accepted {
         requirement: i64,
