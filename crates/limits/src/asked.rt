@@ -1,0 +1,133 @@
+// What is asked of the formulas: how a line says it, and what they answer.
+use closings::types::Quote;
+use intervals::types::Intervals;
+use refusals::{BidAnswer, Figure};
+use std::alloc::{AllocError, Global};
+use std::fmt;
+use virtuals::Side;
+
+// The refusal's number or 0, and the amount.
+fn figure(answer: Figure) -> (u64, i64) {
+    (answer.refusal(), answer.cents())
+}
+
+fn bid(answer: BidAnswer) -> (u64, i64) {
+    (answer.refusal(), answer.bid().cents)
+}
+
+#[derive(Clone, Copy)]
+pub(crate) enum Asked {
+    // A kind, how many times which MWh and how many times which price, and a differential.
+    Bid(u64, usize, u64, usize, i64, u64),
+    // How many times which MWh, and how many times which price.
+    Exposure(usize, u64, usize, i64),
+    // A kind, a differential, a schedule and two prices.
+    Posted(u64, u64, u64, i64, i64),
+    // A kind, a schedule, the Day-Ahead price, the posted amount, the actual MWh and two prices.
+    Finished(u64, u64, i64, i64, u64, i64, i64),
+    // A kind, MWh and two prices.
+    Delivery(u64, u64, i64, i64),
+    Billed(i64),
+    // An interval's sum, that of each of the other three, its price, and each of theirs.
+    Closed(u64, u64, i64, i64),
+    // Load and supply.
+    SidesBid(Side, Side),
+    SidesPosted(Side, Side),
+}
+
+impl Asked {
+    pub(crate) fn answer(self, alloc: Global) -> Result<(u64, i64), AllocError> {
+        Ok(match self {
+            Asked::Bid(kind, quantities, mwh, priced, price, differential) => {
+                let mwh = vec![in alloc; mwh; quantities]?;
+                let prices = vec![in alloc; price; priced]?;
+                bid(bids::bid(kind, &mwh, &prices, differential, false))
+            }
+            Asked::Exposure(quantities, mwh, priced, price) => {
+                let mwh = vec![in alloc; mwh; quantities]?;
+                let prices = vec![in alloc; price; priced]?;
+                figure(bids::price_exposure(&mwh, &prices))
+            }
+            Asked::Posted(kind, differential, schedule, price, second) => figure(formulas::posted(
+                kind,
+                differential,
+                false,
+                schedule,
+                price,
+                second,
+            )),
+            Asked::Finished(kind, schedule, day_ahead, posted, actual, price, second) => {
+                figure(formulas::finished(
+                    kind, false, schedule, day_ahead, posted, actual, price, second,
+                ))
+            }
+            Asked::Delivery(kind, mwh, price, second) => {
+                (deliveries::delivery_refusal(kind, mwh, price, second), 0)
+            }
+            Asked::Billed(amount) => figure(formulas::billed(amount)),
+            Asked::Closed(mwh, others, price, other_prices) => figure(closings::closed(
+                Intervals {
+                    first: mwh,
+                    second: others,
+                    third: others,
+                    fourth: others,
+                },
+                Quote {
+                    first: price,
+                    second: other_prices,
+                    third: other_prices,
+                    fourth: other_prices,
+                },
+            )),
+            Asked::SidesBid(load, supply) => figure(virtuals::bid(load, supply)),
+            Asked::SidesPosted(load, supply) => figure(virtuals::posted(load, supply)),
+        })
+    }
+}
+
+impl fmt::Display for Asked {
+    fn fmt<W: fmt::Write>(&self, f: &mut fmt::Formatter<W>) -> fmt::Result {
+        match *self {
+            Asked::Bid(kind, quantities, mwh, priced, price, differential) => write!(
+                f,
+                "bid kind {kind} with {quantities} times {mwh} MWh and {priced} times price {price} differential {differential}"
+            ),
+            Asked::Exposure(quantities, mwh, priced, price) => write!(
+                f,
+                "price exposure with {quantities} times {mwh} MWh and {priced} times price {price}"
+            ),
+            Asked::Posted(kind, differential, schedule, price, second) => write!(
+                f,
+                "posted kind {kind} differential {differential} schedule {schedule} prices {price} and {second}"
+            ),
+            Asked::Finished(kind, schedule, day_ahead, posted, actual, price, second) => write!(
+                f,
+                "finished kind {kind} schedule {schedule} Day-Ahead {day_ahead} posted {posted} actual {actual} prices {price} and {second}"
+            ),
+            Asked::Delivery(kind, mwh, price, second) => write!(
+                f,
+                "delivery kind {kind} MWh {mwh} prices {price} and {second}"
+            ),
+            Asked::Billed(amount) => write!(f, "billed {amount}"),
+            Asked::Closed(mwh, others, price, other_prices) => write!(
+                f,
+                "closed MWh {mwh} and three times {others} prices {price} and three times {other_prices}"
+            ),
+            Asked::SidesBid(load, supply) => sides(f, "bid", load, supply),
+            Asked::SidesPosted(load, supply) => sides(f, "posted", load, supply),
+        }
+    }
+}
+
+fn sides<W: fmt::Write>(
+    f: &mut fmt::Formatter<W>,
+    stage: &str,
+    load: Side,
+    supply: Side,
+) -> fmt::Result {
+    write!(
+        f,
+        "sides {stage} load {} at {} supply {} at {}",
+        load.mwh, load.differential, supply.mwh, supply.differential
+    )
+}
