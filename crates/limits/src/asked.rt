@@ -6,13 +6,27 @@ use std::alloc::{AllocError, Global};
 use std::fmt;
 use virtuals::Side;
 
-// The refusal's number or 0, and the amount.
-fn figure(answer: Figure) -> (u64, i64) {
-    (answer.refusal(), answer.cents())
+// The amount, or the number of the refusal.
+fn figure(answer: Figure) -> Result<i64, u64> {
+    match answer {
+        Figure::Cents(cents) => Ok(cents),
+        Figure::Refused(number) => Err(number),
+    }
 }
 
-fn bid(answer: BidAnswer) -> (u64, i64) {
-    (answer.refusal(), answer.bid().cents)
+fn bid(answer: BidAnswer) -> Result<i64, u64> {
+    match answer {
+        BidAnswer::Stands(bid) => Ok(bid.cents),
+        BidAnswer::Refused(number) => Err(number),
+    }
+}
+
+// Of an entry that only refuses, whose amount is 0.
+fn refused(refusal: u64) -> Result<i64, u64> {
+    match refusal {
+        0 => Ok(0),
+        number => Err(number),
+    }
 }
 
 #[derive(Clone, Copy)]
@@ -36,7 +50,7 @@ pub(crate) enum Asked {
 }
 
 impl Asked {
-    pub(crate) fn answer(self, alloc: Global) -> Result<(u64, i64), AllocError> {
+    pub(crate) fn answer(self, alloc: Global) -> Result<Result<i64, u64>, AllocError> {
         Ok(match self {
             Asked::Bid(kind, quantities, mwh, priced, price, differential) => {
                 let mwh = vec![in alloc; mwh; quantities]?;
@@ -62,7 +76,7 @@ impl Asked {
                 ))
             }
             Asked::Delivery(kind, mwh, price, second) => {
-                (deliveries::delivery_refusal(kind, mwh, price, second), 0)
+                refused(deliveries::delivery_refusal(kind, mwh, price, second))
             }
             Asked::Billed(amount) => figure(formulas::billed(amount)),
             Asked::Closed(mwh, others, price, other_prices) => figure(closings::closed(

@@ -2,7 +2,7 @@
 use crate::asked::Asked::{self, Bid, Billed, Closed, Delivery, Exposure, Finished, Posted};
 
 // The count of points, and lists of unequal length.
-pub(crate) const POINTS: [Asked; 11] = [
+pub(crate) const POINTS: &[Asked] = &[
     Bid(1, 0, 0, 0, 0, 0),
     Bid(1, 1, 0, 0, 0, 0),
     Bid(1, 0, 0, 1, 0, 0),
@@ -17,7 +17,7 @@ pub(crate) const POINTS: [Asked; 11] = [
 ];
 
 // The MWh and the price of a point.
-pub(crate) const POINT_VALUES: [Asked; 13] = [
+pub(crate) const POINT_VALUES: &[Asked] = &[
     Bid(1, 1, 10_000, 1, 0, 1),
     Bid(1, 1, 10_001, 1, 0, 1),
     Bid(2, 1, u64::MAX, 1, 0, 0),
@@ -34,7 +34,7 @@ pub(crate) const POINT_VALUES: [Asked; 13] = [
 ];
 
 // The differential, of a bid and of a post.
-pub(crate) const DIFFERENTIALS: [Asked; 11] = [
+pub(crate) const DIFFERENTIALS: &[Asked] = &[
     Bid(1, 1, 1, 1, 0, 1_000_000),
     Bid(1, 1, 1, 1, 0, 1_000_001),
     Bid(2, 1, 1, 1, 0, 1_000_000),
@@ -49,7 +49,7 @@ pub(crate) const DIFFERENTIALS: [Asked; 11] = [
 ];
 
 // The kind; a bid of kind 5 has four curves, and posting is not for kinds 3 and 5.
-pub(crate) const KINDS: [Asked; 12] = [
+pub(crate) const KINDS: &[Asked] = &[
     Bid(0, 1, 1, 1, 1, 0),
     Bid(5, 1, 1, 1, 1, 0),
     Bid(7, 1, 1, 1, 1, 0),
@@ -65,7 +65,7 @@ pub(crate) const KINDS: [Asked; 12] = [
 ];
 
 // Where several apply, the first.
-pub(crate) const FIRST_REFUSALS: [Asked; 19] = [
+pub(crate) const FIRST_REFUSALS: &[Asked] = &[
     Bid(7, 0, u64::MAX, 65, i64::MIN, u64::MAX),
     Bid(5, 1, u64::MAX, 1, i64::MIN, u64::MAX),
     Bid(3, 1, u64::MAX, 65, i64::MIN, u64::MAX),
@@ -88,7 +88,7 @@ pub(crate) const FIRST_REFUSALS: [Asked; 19] = [
 ];
 
 // The largest bid of each kind.
-pub(crate) const LARGEST_BIDS: [Asked; 6] = [
+pub(crate) const LARGEST_BIDS: &[Asked] = &[
     Bid(1, 64, 10_000, 64, 0, 1_000_000),
     Bid(2, 64, 10_000, 64, 1_000_000, 0),
     Bid(2, 64, 10_000, 64, -1, 1_000_000),
@@ -98,7 +98,7 @@ pub(crate) const LARGEST_BIDS: [Asked; 6] = [
 ];
 
 // The schedule and the prices of a post.
-pub(crate) const SCHEDULES: [Asked; 9] = [
+pub(crate) const SCHEDULES: &[Asked] = &[
     Posted(1, 1, 640_000, 0, 0),
     Posted(1, 1, 640_001, 0, 0),
     Posted(1, 1, u64::MAX, 0, 0),
@@ -111,7 +111,7 @@ pub(crate) const SCHEDULES: [Asked; 9] = [
 ];
 
 // The second price, 0 but for a wheel.
-pub(crate) const SECOND_PRICES: [Asked; 13] = [
+pub(crate) const SECOND_PRICES: &[Asked] = &[
     Posted(1, 0, 1, 1, 1),
     Posted(2, 0, 1, 1, -1),
     Posted(3, 0, 1, 1, 1),
@@ -128,7 +128,7 @@ pub(crate) const SECOND_PRICES: [Asked; 13] = [
 ];
 
 // The largest posted amount of each kind.
-pub(crate) const LARGEST_POSTS: [Asked; 4] = [
+pub(crate) const LARGEST_POSTS: &[Asked] = &[
     Posted(1, 1_000_000, 640_000, 0, 0),
     Posted(2, 0, 640_000, 1_000_000, 0),
     Posted(4, 0, 640_000, 1_000_000, -1_000_000),
@@ -136,7 +136,7 @@ pub(crate) const LARGEST_POSTS: [Asked; 4] = [
 ];
 
 // The quantities and the prices of a finish.
-pub(crate) const ACTUALS: [Asked; 13] = [
+pub(crate) const ACTUALS: &[Asked] = &[
     Finished(2, 640_000, 0, 0, 640_000, 1, 0),
     Finished(2, 640_001, 0, 0, 0, 1, 0),
     Finished(2, 0, 0, 0, 640_001, 1, 0),
@@ -153,7 +153,7 @@ pub(crate) const ACTUALS: [Asked; 13] = [
 ];
 
 // The posted amount that a finish starts from.
-pub(crate) const POSTED_AMOUNTS: [Asked; 11] = [
+pub(crate) const POSTED_AMOUNTS: &[Asked] = &[
     Finished(2, 0, 0, -1, 0, 0, 0),
     Finished(2, 0, 0, 640_000_000_000, 0, 0, 0),
     Finished(2, 0, 0, 640_000_000_001, 0, 0, 0),
@@ -168,7 +168,7 @@ pub(crate) const POSTED_AMOUNTS: [Asked; 11] = [
 ];
 
 // The largest finish of each kind, and the least.
-pub(crate) const LARGEST_FINISHES: [Asked; 11] = [
+pub(crate) const LARGEST_FINISHES: &[Asked] = &[
     Finished(1, 640_000, -1_000_000, 0, 0, 1_000_000, 0),
     Finished(1, 640_000, 1_000_000, 0, 640_000, 0, 0),
     Finished(2, 0, 0, 640_000_000_000, 640_000, 1_000_000, 0),
@@ -183,7 +183,7 @@ pub(crate) const LARGEST_FINISHES: [Asked; 11] = [
 ];
 
 // Refusals 6 and 7 by themselves.
-pub(crate) const DELIVERIES: [Asked; 8] = [
+pub(crate) const DELIVERIES: &[Asked] = &[
     Delivery(5, 640_000, 1_000_000, 0),
     Delivery(5, 0, 0, 1),
     Delivery(1, 640_000, 1_000_000, 0),
@@ -195,7 +195,7 @@ pub(crate) const DELIVERIES: [Asked; 8] = [
 ];
 
 // The bill.
-pub(crate) const BILLS: [Asked; 7] = [
+pub(crate) const BILLS: &[Asked] = &[
     Billed(1_000_000_000_000),
     Billed(1_000_000_000_001),
     Billed(-1_000_000_000_000),
@@ -206,7 +206,7 @@ pub(crate) const BILLS: [Asked; 7] = [
 ];
 
 // What a bid of kind 5 requires once its hour is closed: a quarter hour of each interval, not below 0, rounded up to a cent once.
-pub(crate) const CLOSES: [Asked; 18] = [
+pub(crate) const CLOSES: &[Asked] = &[
     Closed(0, 0, 0, 0),
     Closed(640_000, 640_000, 1_000_000, 1_000_000),
     Closed(640_000, 640_000, -1_000_000, -1_000_000),
@@ -228,7 +228,7 @@ pub(crate) const CLOSES: [Asked; 18] = [
 ];
 
 // Kind 6 has no curve, no post and no finish of document 01's.
-pub(crate) const TWO_SIDES: [Asked; 7] = [
+pub(crate) const TWO_SIDES: &[Asked] = &[
     Bid(6, 1, 1, 1, 1, 0),
     Posted(6, 0, 1, 1, 0),
     Posted(6, 1_000_000, 640_000, 1, 0),
@@ -247,7 +247,7 @@ pub(crate) const TWO_SIDES: [Asked; 7] = [
 ];
 
 // MWh and differential of load, and of supply.
-pub(crate) const SIDES: [[u64; 4]; 18] = [
+pub(crate) const SIDES: &[[u64; 4]] = &[
     [0, 0, 0, 0],
     [1, 2, 2, 1],
     [2, 1, 1, 2],

@@ -9,35 +9,38 @@ use std::io;
 use virtuals::Side;
 
 fn show<R: Print + AllocGlobal>(rt: &R, asked: Asked) -> io::Result<()> {
-    let (refusal, cents) = asked.answer(rt.alloc())?;
+    let (refusal, cents) = match asked.answer(rt.alloc())? {
+        Ok(cents) => (0, cents),
+        Err(number) => (number, 0),
+    };
     println!(rt; "{asked}: {refusal} {cents}")
 }
 
 fn main(rt: HostRuntime) -> io::Result<()> {
-    let groups: [&[Asked]; 16] = [
-        &cases::POINTS,
-        &cases::POINT_VALUES,
-        &cases::DIFFERENTIALS,
-        &cases::KINDS,
-        &cases::FIRST_REFUSALS,
-        &cases::LARGEST_BIDS,
-        &cases::SCHEDULES,
-        &cases::SECOND_PRICES,
-        &cases::LARGEST_POSTS,
-        &cases::ACTUALS,
-        &cases::POSTED_AMOUNTS,
-        &cases::LARGEST_FINISHES,
-        &cases::DELIVERIES,
-        &cases::BILLS,
-        &cases::CLOSES,
-        &cases::TWO_SIDES,
+    let groups = [
+        cases::POINTS,
+        cases::POINT_VALUES,
+        cases::DIFFERENTIALS,
+        cases::KINDS,
+        cases::FIRST_REFUSALS,
+        cases::LARGEST_BIDS,
+        cases::SCHEDULES,
+        cases::SECOND_PRICES,
+        cases::LARGEST_POSTS,
+        cases::ACTUALS,
+        cases::POSTED_AMOUNTS,
+        cases::LARGEST_FINISHES,
+        cases::DELIVERIES,
+        cases::BILLS,
+        cases::CLOSES,
+        cases::TWO_SIDES,
     ];
     for group in groups {
         for asked in group {
             show(&rt, *asked)?;
         }
     }
-    for [load_mwh, load_differential, supply_mwh, supply_differential] in cases::SIDES {
+    for &[load_mwh, load_differential, supply_mwh, supply_differential] in cases::SIDES {
         let load = Side {
             mwh: load_mwh,
             differential: load_differential,
