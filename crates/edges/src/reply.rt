@@ -5,10 +5,14 @@ use std::fmt;
 #[derive(Clone, Copy)]
 pub(crate) enum Reply {
     Nothing,
-    // To a message, and whether the next book is the same.
-    Answered(Answer, bool),
-    // Whether the book that is rebuilt is the same.
-    Rebuilt(bool),
+    // To a message; whether the next book is the same.
+    Answered {
+        answer: Answer,
+        same: bool,
+    },
+    Rebuilt {
+        same: bool,
+    },
     Place(Record),
     Sums {
         support: i64,
@@ -26,7 +30,7 @@ impl fmt::Display for Reply {
     fn fmt<W: fmt::Write>(&self, f: &mut fmt::Formatter<W>) -> fmt::Result {
         match *self {
             Reply::Nothing => Ok(()),
-            Reply::Answered(answer, same) => {
+            Reply::Answered { answer, same } => {
                 let removed = if answer.removed() { " removed" } else { "" };
                 write!(
                     f,
@@ -38,7 +42,7 @@ impl fmt::Display for Reply {
                     compared(same)
                 )
             }
-            Reply::Rebuilt(same) => write!(f, ": {}", compared(same)),
+            Reply::Rebuilt { same } => write!(f, ": {}", compared(same)),
             Reply::Place(record) => place(f, record),
             Reply::Sums {
                 support,

@@ -31,8 +31,7 @@ pub(crate) enum Word {
 }
 
 impl Word {
-    // By the third letter of `a fresh`, `open`, `revise` .., and after `zone` by the first of the next word. By whole words another answer would be
-    // given to a line whose word is none of these, and what is printed may not change.
+    // By the third letter, and after `zone` by the next word's first: what is printed for a line of any other word may not change.
     pub(crate) fn of(line: &[u8]) -> Word {
         match line {
             [b'z', _, _, _, _, b'o', ..] => Word::OpenSides,

@@ -17,7 +17,7 @@ fn from_first(group: u64, step: u64) -> u64 {
 impl Groups {
     // Spread: the kinds in turn; an hour is given once. Else all are imports.
     fn key(self, group: u64) -> Key {
-        if (self.hours == 0) & (self.paths == 0) {
+        if self.hours == 0 && self.paths == 0 {
             return Key {
                 kind: group % 4 + 1,
                 path: group % 7 * 100 + 7,
@@ -60,8 +60,7 @@ impl Groups {
             turn / 8 % self.open
         };
         let price = (turn % 1_000 + 4_000) as i64;
-        let step = turn % 8;
-        match step {
+        match turn % 8 {
             0 | 6 => Message::Revise(self.opening(group, turn)),
             1 => Message::Post(Posting {
                 key: self.key(group),
