@@ -3,7 +3,7 @@ use credit::types::Account;
 use records::types::Record;
 use refusals::Answer;
 
-#[derive(Clone, Copy)]
+#[derive(Clone, Copy, PartialEq, Eq, Debug)]
 pub struct Book {
     // First, since the paths of proofs follow a field's position.
     pub records: [Record; 256],

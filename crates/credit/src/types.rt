@@ -1,7 +1,7 @@
 // What a book keeps beside its places, what its records add up to, and what refusals 14 to 16 see.
 
 // What a book keeps beside its places. A message's ending hands it on whole, so that what is kept is named in this crate alone.
-#[derive(Clone, Copy)]
+#[derive(Clone, Copy, PartialEq, Eq, Debug)]
 pub struct Account {
     pub support: i64,
     // Credit held and net owed, kept so that a screen reads no record (02, order 1).

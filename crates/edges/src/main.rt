@@ -6,50 +6,25 @@
 #![tactic(auto)]
 
 mod act;
-mod say;
+mod lists;
+mod reply;
 mod scripts;
-
-ghost use Rattle.std.specs.Prelude.{◌≤◌, length};
+mod word;
 
 use book::Book;
+use std::io;
+use std::io::{BufRead, BufReader, BufWriter, Write};
 
-// The C library's number of the stream.
-const STDIN: i32 = 0;
-
-// The end of the line that goes on from here.
-fn line_end(text: &[u8], from: usize) -> usize
-    requires { from ≤ length text.now }
-    ensures { (from ≤ result) × (result ≤ length text.now) }
-{
-    let mut at = from;
-    while at < text.len() {
-        if text[at] == b'\n' {
-            return at;
-        }
-        at += 1;
-    }
-    at
-}
-
-fn line(book: Book, text: &[u8]) -> Book {
-    lines::print(text);
-    let next = act::act(book, text);
-    lines::print(b"\n");
-    next
-}
-
-fn run(text: &[u8]) {
+fn main(rt: HostRuntime) -> io::Result<()> {
+    let alloc = rt.alloc();
+    let mut out = BufWriter::new(alloc, io::writer(&rt))?;
     let mut book = Book::fresh(0).book;
-    let mut at: usize = 0;
-    while at < text.len() {
-        let end = line_end(text, at);
-        book = line(book, &text[at..end]);
-        at = end + 1;
+    for line in BufReader::new(alloc, rt.reader())?.split(alloc, b'\n') {
+        let line = line?;
+        let acted = act::act(alloc, book, &line)?;
+        out.write_all(&line)?;
+        writeln!(out, "{}", acted.reply)?;
+        book = acted.book;
     }
-}
-
-fn main() {
-    let mut space = [0u8; 131_072];
-    let read = io::read_full(STDIN, &mut space);
-    run(&space[..read]);
+    out.flush()
 }

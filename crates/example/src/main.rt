@@ -1,11 +1,10 @@
 // The example of README's 'How to call the library', as it stands there: tools/readme-example compares the two.
 #![tactic(auto)]
 
-mod say;
-
 use book::*;
+use std::io;
 
-fn main() {
+fn main(rt: HostRuntime) -> io::Result<()> {
     // An empty book. The support is in cents; one that is out of range is refusal 9.
     let start = Book::fresh(1_000_000_000);
 
@@ -22,21 +21,20 @@ fn main() {
     };
 
     // The points of the curve, in two lent lists: MWh, and cents per MWh.
-    let mwh = [27u64, 61, 100];
-    let prices = [4_600i64, 5_500, 5_800];
+    let mwh = [27, 61, 100];
+    let prices = [4_600, 5_500, 5_800];
     let opened = start.book.open(opening, &mwh, &prices);
 
-    // A `match` is on a local. A refusal has document 01's number, and `opened.book` is then the book as it was.
-    let answer = opened.answer;
-    match answer {
-        Answer::Accepted { requirement, .. } => say::cents(b"requirement", requirement),
-        Answer::Refused { number, .. } => say::refusal(number),
+    // A refusal has document 01's number, and `opened.book` is then the book as it was.
+    match opened.answer {
+        Answer::Accepted { requirement, .. } => println!(rt; "requirement {requirement}")?,
+        Answer::Refused { number, .. } => println!(rt; "refusal {number}")?,
         // Only a close answers this: the bids of its hour were too much, and are gone.
-        Answer::Removed { held, .. } => say::cents(b"removed; held", held),
+        Answer::Removed { held, .. } => println!(rt; "removed; held {held}")?,
     }
 
     // What a screen asks stands beside the places: it reads the account, 24 bytes, and does not hand over the book. The next message goes to `opened.book`.
     let account = opened.book.account;
-    say::cents(b"held", account.held);
-    say::cents(b"net owed", account.owed);
+    println!(rt; "held {}", account.held)?;
+    println!(rt; "net owed {}", account.owed)
 }

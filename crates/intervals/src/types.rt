@@ -19,7 +19,7 @@ impl Counts {
 }
 
 // The MWh of each interval.
-#[derive(Clone, Copy)]
+#[derive(Clone, Copy, PartialEq, Eq, Debug)]
 pub struct Intervals {
     pub first: u64,
     pub second: u64,

@@ -1,5 +1,5 @@
 // What the desk sends: each group in turn goes through its life, and is open again at its end. An empty book has support 0, so that none is opened there.
-use book::{Billing, Finishing, Funding, Key, Message, Opening, Posting};
+use book::{Billing, Finishing, Funding, Key, Kind, Message, Opening, Posting};
 
 // The groups that are open, and how many hours and paths lie between the keys of two of them; none of both where the keys are spread.
 #[derive(Clone, Copy)]
@@ -15,9 +15,9 @@ fn from_first(group: u64, step: u64) -> u64 {
 }
 
 impl Groups {
-    // Spread: the kinds in turn; an hour is given once. Else all are of kind 1.
+    // Spread: the kinds in turn; an hour is given once. Else all are imports.
     fn key(self, group: u64) -> Key {
-        if (self.hours == 0) & (self.paths == 0) {
+        if self.hours == 0 && self.paths == 0 {
             return Key {
                 kind: group % 4 + 1,
                 path: group % 7 * 100 + 7,
@@ -25,7 +25,7 @@ impl Groups {
             };
         }
         Key {
-            kind: 1,
+            kind: Kind::IMPORT,
             path: from_first(group, self.paths) % 999 + 1,
             hour: from_first(group, self.hours) % 1_000_000,
         }
@@ -33,10 +33,9 @@ impl Groups {
 
     pub(crate) fn opening(self, group: u64, turn: u64) -> Opening {
         let key = self.key(group);
-        let differential = if key.kind < 3 {
-            turn % 1_000 + 1_000
-        } else {
-            0
+        let differential = match key.kind {
+            Kind::IMPORT | Kind::EXPORT => turn % 1_000 + 1_000,
+            _ => 0,
         };
         Opening {
             key,
@@ -61,8 +60,7 @@ impl Groups {
             turn / 8 % self.open
         };
         let price = (turn % 1_000 + 4_000) as i64;
-        let step = turn % 8;
-        match step {
+        match turn % 8 {
             0 | 6 => Message::Revise(self.opening(group, turn)),
             1 => Message::Post(Posting {
                 key: self.key(group),

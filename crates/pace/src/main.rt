@@ -10,83 +10,27 @@ mod hour;
 
 use book::{Account, Answer, Book, Message, Outcome};
 use desk::Groups;
-
-// The C library's numbers of the streams.
-const STDIN: i32 = 0;
-
-const STDOUT: i32 = 1;
+use std::io;
+use std::io::Read;
 
 const MODULUS: u64 = 2_147_483_647;
 
-#[derive(Clone, Copy)]
-struct Plan {
-    price: u64,
-    closes: u64,
-    opens: u64,
-    questions: u64,
-    hours: u64,
-    paths: u64,
-    open: u64,
-    messages: u64,
-}
-
-impl Plan {
-    // A digit is one more of the last number; after a space each number stands one further forward.
-    fn fed(self, byte: u8) -> Plan {
-        if byte == b' ' {
-            return Plan {
-                price: self.closes,
-                closes: self.opens,
-                opens: self.questions,
-                questions: self.hours,
-                hours: self.paths,
-                paths: self.open,
-                open: self.messages,
-                messages: 0,
-            };
-        }
-        if (byte < b'0') | (b'9' < byte) {
-            return self;
-        }
-        Plan {
-            price: self.price,
-            closes: self.closes,
-            opens: self.opens,
-            questions: self.questions,
-            hours: self.hours,
-            paths: self.paths,
-            open: self.open,
-            messages: self.messages % 100_000_000_000 * 10 + byte as u64 % 16,
+// The last eight numbers of a text. A digit is one more of the last number; after a space each number stands one further forward.
+fn numbers(text: &[u8]) -> [u64; 8] {
+    let mut numbers = [0u64; 8];
+    for byte in text {
+        match byte {
+            b' ' => {
+                numbers.rotate_left(1);
+                numbers[7] = 0;
+            }
+            b'0'..=b'9' => {
+                numbers[7] = numbers[7] % 100_000_000_000 * 10 + u64::from(*byte - b'0');
+            }
+            _ => {}
         }
     }
-
-    fn groups(self) -> Groups {
-        let open = if 256 < self.open { 256 } else { self.open };
-        Groups {
-            hours: self.hours,
-            paths: self.paths,
-            open,
-        }
-    }
-}
-
-fn read(input: &[u8; 64]) -> Plan {
-    let mut plan = Plan {
-        price: 0,
-        closes: 0,
-        opens: 0,
-        questions: 0,
-        hours: 0,
-        paths: 0,
-        open: 0,
-        messages: 0,
-    };
-    let mut i: usize = 0;
-    while i < 64 {
-        plan = plan.fed(input[i]);
-        i += 1;
-    }
-    plan
+    numbers
 }
 
 pub(crate) fn mix(digest: u64, value: u64) -> u64 {
@@ -95,47 +39,37 @@ pub(crate) fn mix(digest: u64, value: u64) -> u64 {
 
 // The refusal's number, or 0, and the amounts.
 pub(crate) fn mixed(digest: u64, answer: Answer) -> u64 {
-    let first = mix(
-        mix(digest, answer.number()),
-        amounts::magnitude(answer.requirement()),
-    );
-    mix(
-        mix(first, amounts::magnitude(answer.held())),
-        amounts::magnitude(answer.net_owed()),
-    )
+    let digest = mix(digest, answer.number());
+    let digest = mix(digest, answer.requirement().unsigned_abs());
+    let digest = mix(digest, answer.held().unsigned_abs());
+    mix(digest, answer.net_owed().unsigned_abs())
 }
 
 // The outcome is kept whole from one message to the next, so that a book is not copied here.
 fn filled(groups: Groups) -> Outcome {
     let mut last = Book::fresh(groups.support(0));
-    let mut group: u64 = 0;
-    while group < groups.open {
+    for group in 0..groups.open {
         let mwh = desk::mwh(group);
         let prices = desk::prices(group);
         last = last
             .book
             .apply(Message::Open(groups.opening(group, group)), &mwh, &prices);
-        group += 1;
     }
     last
 }
 
 // What a screen reads: held, net owed, and whether the book is suspended. They stand beside the places, so the book is not handed over.
 fn shown(digest: u64, account: Account) -> u64 {
-    let totals = mix(
-        mix(digest, amounts::magnitude(account.held)),
-        amounts::magnitude(account.owed),
-    );
-    mix(totals, if account.suspended() { 1 } else { 0 })
+    let digest = mix(digest, account.held.unsigned_abs());
+    let digest = mix(digest, account.owed.unsigned_abs());
+    mix(digest, u64::from(account.suspended()))
 }
 
 // The digest of what a screen is shown, so many times, after what was sent to the full book.
 fn asked(account: Account, questions: u64, before: u64) -> u64 {
     let mut digest = before;
-    let mut question: u64 = 0;
-    while question < questions {
+    for _ in 0..questions {
         digest = shown(digest, account);
-        question += 1;
     }
     digest
 }
@@ -144,33 +78,36 @@ fn asked(account: Account, questions: u64, before: u64) -> u64 {
 fn run(start: Outcome, groups: Groups, messages: u64, before: u64) -> u64 {
     let mut last = start;
     let mut digest = before;
-    let mut turn: u64 = 0;
-    while turn < messages {
+    for turn in 0..messages {
         let mwh = desk::mwh(turn);
         let prices = desk::prices(turn);
         last = last.book.apply(groups.message(turn), &mwh, &prices);
-        let answer = last.answer;
-        digest = mixed(digest, answer);
-        turn += 1;
+        digest = mixed(digest, last.answer);
     }
     digest
 }
 
-fn number(name: &[u8], value: u64) {
-    io::write_all(STDOUT, name);
-    io::print_decimal(STDOUT, value);
-}
-
-fn main() {
-    let mut input = [0u8; 64];
-    io::read_full(STDIN, &mut input);
-    let plan = read(&input);
-    let groups = plan.groups();
-    number(b"open ", groups.open);
-    number(b" messages ", plan.messages);
+fn main(rt: HostRuntime) -> io::Result<()> {
+    let mut text = Vec::new(rt.alloc());
+    rt.reader().read_to_end(&mut text)?;
+    let [
+        price,
+        closes,
+        opens,
+        questions,
+        hours,
+        paths,
+        open,
+        messages,
+    ] = numbers(&text);
+    let groups = Groups {
+        hours,
+        paths,
+        open: open.min(256),
+    };
     let full = filled(groups);
-    let sent = hour::sent(plan.price, plan.closes, plan.opens);
-    let digest = asked(full.book.account, plan.questions, sent);
-    number(b" digest ", run(full, groups, plan.messages, digest));
-    io::write_all(STDOUT, b"\n");
+    let sent = hour::sent(price, closes, opens);
+    let asked = asked(full.book.account, questions, sent);
+    let digest = run(full, groups, messages, asked);
+    println!(rt; "open {} messages {messages} digest {digest}", groups.open)
 }

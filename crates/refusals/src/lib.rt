@@ -91,7 +91,7 @@ pub fn bid_or_zero(answer: Result<Bid, Refusal>) -> Bid
 }
 
 // What a message answers: held and net owed, and its requirement or the number of the refusal.
-#[derive(Clone, Copy)]
+#[derive(Clone, Copy, PartialEq, Eq, Debug)]
 pub enum Answer {
     Accepted {
         requirement: i64,

@@ -33,7 +33,7 @@ impl Side {
 }
 
 // What a record keeps of its supply side: MWh and differential as bid, and the MWh that were posted.
-#[derive(Clone, Copy)]
+#[derive(Clone, Copy, PartialEq, Eq, Debug)]
 pub struct Supply {
     pub mwh: u64,
     pub differential: u64,

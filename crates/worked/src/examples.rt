@@ -3,109 +3,48 @@
 ghost use Rattle.std.specs.Prelude.{◌≡◌};
 ghost use Rattle.formulas.specs.Worked.{Ask, answer, asked};
 
+use kinds::Kind;
 use refusals::{BidAnswer, Figure};
 
 // The requirement of a bid alone, or its refusal.
 fn bid(kind: u64, mwh: &[u64], prices: &[i64], differential: u64) -> Figure
     ensures { result ≡ answer (Ask.bid kind mwh.now prices.now differential) }
 {
-    let answer = bids::bid(kind, mwh, prices, differential, false);
-    match answer {
+    match bids::bid(kind, mwh, prices, differential, false) {
         BidAnswer::Stands(bid) => Figure::Cents(bid.cents),
         BidAnswer::Refused(number) => Figure::Refused(number),
     }
 }
 
-pub(crate) fn w1() -> Figure
-    ensures { result ≡ answer (asked 1) }
+// Past the labels of the table a bid of no kind, which is refused.
+pub(crate) fn example(label: u64) -> Figure
+    ensures { result ≡ answer (asked label) }
 {
-    let mwh = [27u64, 61, 100];
-    let prices = [4_600i64, 5_500, 5_800];
-    bid(1, &mwh, &prices, 6_000)
-}
-
-pub(crate) fn w2() -> Figure
-    ensures { result ≡ answer (asked 2) }
-{
-    formulas::posted(1, 6_000, false, 50, 4_000, 0)
-}
-
-pub(crate) fn w3() -> Figure
-    ensures { result ≡ answer (asked 3) }
-{
-    formulas::finished(1, false, 50, 4_000, 300_000, 10, 6_000, 0)
-}
-
-pub(crate) fn w4() -> Figure
-    ensures { result ≡ answer (asked 4) }
-{
-    let mwh = [100u64, 90, 80, 70];
-    let prices = [1_000i64, 1_500, 3_000, 4_500];
-    bid(2, &mwh, &prices, 1_200)
-}
-
-pub(crate) fn w5() -> Figure
-    ensures { result ≡ answer (asked 5) }
-{
-    let mwh = [100u64, 90, 80, 70];
-    let prices = [1_000i64, 1_500, 3_000, 4_500];
-    bid(2, &mwh, &prices, 1_400)
-}
-
-pub(crate) fn w6() -> Figure
-    ensures { result ≡ answer (asked 6) }
-{
-    formulas::posted(2, 4_000, false, 100, 5_000, 0)
-}
-
-pub(crate) fn w7() -> Figure
-    ensures { result ≡ answer (asked 7) }
-{
-    formulas::finished(2, false, 100, 0, 500_000, 90, 4_000, 0)
-}
-
-pub(crate) fn w8() -> Figure
-    ensures { result ≡ answer (asked 8) }
-{
-    formulas::finished(2, false, 100, 0, 500_000, 120, 4_000, 0)
-}
-
-pub(crate) fn w9() -> Figure
-    ensures { result ≡ answer (asked 9) }
-{
-    let mwh = [30u64, 40, 50];
-    let prices = [-500i64, -400, 200];
-    bid(4, &mwh, &prices, 0)
-}
-
-pub(crate) fn w10() -> Figure
-    ensures { result ≡ answer (asked 10) }
-{
-    formulas::posted(4, 0, false, 50, 900, 500)
-}
-
-pub(crate) fn w11() -> Figure
-    ensures { result ≡ answer (asked 11) }
-{
-    formulas::finished(4, false, 50, 0, 20_000, 40, 1_000, 500)
-}
-
-pub(crate) fn w12() -> Figure
-    ensures { result ≡ answer (asked 12) }
-{
-    formulas::finished(4, false, 50, 0, 20_000, 70, 1_000, 500)
-}
-
-pub(crate) fn w13() -> Figure
-    ensures { result ≡ answer (asked 13) }
-{
-    let mwh = [50u64];
-    let prices = [200i64];
-    bid(4, &mwh, &prices, 0)
-}
-
-pub(crate) fn w14() -> Figure
-    ensures { result ≡ answer (asked 14) }
-{
-    formulas::finished(1, false, 50, -4_000, 0, 60, 6_000, 0)
+    match label {
+        1 => bid(Kind::IMPORT, &[27, 61, 100], &[4_600, 5_500, 5_800], 6_000),
+        2 => formulas::posted(Kind::IMPORT, 6_000, false, 50, 4_000, 0),
+        3 => formulas::finished(Kind::IMPORT, false, 50, 4_000, 300_000, 10, 6_000, 0),
+        4 => bid(
+            Kind::EXPORT,
+            &[100, 90, 80, 70],
+            &[1_000, 1_500, 3_000, 4_500],
+            1_200,
+        ),
+        5 => bid(
+            Kind::EXPORT,
+            &[100, 90, 80, 70],
+            &[1_000, 1_500, 3_000, 4_500],
+            1_400,
+        ),
+        6 => formulas::posted(Kind::EXPORT, 4_000, false, 100, 5_000, 0),
+        7 => formulas::finished(Kind::EXPORT, false, 100, 0, 500_000, 90, 4_000, 0),
+        8 => formulas::finished(Kind::EXPORT, false, 100, 0, 500_000, 120, 4_000, 0),
+        9 => bid(Kind::WHEEL, &[30, 40, 50], &[-500, -400, 200], 0),
+        10 => formulas::posted(Kind::WHEEL, 0, false, 50, 900, 500),
+        11 => formulas::finished(Kind::WHEEL, false, 50, 0, 20_000, 40, 1_000, 500),
+        12 => formulas::finished(Kind::WHEEL, false, 50, 0, 20_000, 70, 1_000, 500),
+        13 => bid(Kind::WHEEL, &[50], &[200], 0),
+        14 => formulas::finished(Kind::IMPORT, false, 50, -4_000, 0, 60, 6_000, 0),
+        _ => bid(0, &[], &[], 0),
+    }
 }

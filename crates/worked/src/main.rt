@@ -4,31 +4,16 @@
 mod examples;
 
 use refusals::Figure;
+use std::io;
 
-fn line(label: &[u8], answer: Figure) {
-    io::write_all(1, label);
-    io::write_all(1, b" ");
-    let cents = answer.cents();
-    if cents < 0 {
-        io::write_all(1, b"-");
-    }
-    io::print_decimal(1, amounts::magnitude(cents));
-    io::write_all(1, b"\n");
+// The amount; none of the examples is refused.
+fn cents(answer: Figure) -> i64 {
+    answer.cents()
 }
 
-fn main() {
-    line(b"W1", examples::w1());
-    line(b"W2", examples::w2());
-    line(b"W3", examples::w3());
-    line(b"W4", examples::w4());
-    line(b"W5", examples::w5());
-    line(b"W6", examples::w6());
-    line(b"W7", examples::w7());
-    line(b"W8", examples::w8());
-    line(b"W9", examples::w9());
-    line(b"W10", examples::w10());
-    line(b"W11", examples::w11());
-    line(b"W12", examples::w12());
-    line(b"W13", examples::w13());
-    line(b"W14", examples::w14());
+fn main(rt: HostRuntime) -> io::Result<()> {
+    for label in 1..=14 {
+        println!(rt; "W{label} {}", cents(examples::example(label)))?;
+    }
+    Ok(())
 }

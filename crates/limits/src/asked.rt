@@ -1,0 +1,147 @@
+// What is asked of the formulas: how a line says it, and what they answer.
+use closings::types::Quote;
+use intervals::types::Intervals;
+use refusals::{BidAnswer, Figure};
+use std::alloc::{AllocError, Global};
+use std::fmt;
+use virtuals::Side;
+
+// The amount, or the number of the refusal.
+fn figure(answer: Figure) -> Result<i64, u64> {
+    match answer {
+        Figure::Cents(cents) => Ok(cents),
+        Figure::Refused(number) => Err(number),
+    }
+}
+
+fn bid(answer: BidAnswer) -> Result<i64, u64> {
+    match answer {
+        BidAnswer::Stands(bid) => Ok(bid.cents),
+        BidAnswer::Refused(number) => Err(number),
+    }
+}
+
+// Of an entry that only refuses, whose amount is 0.
+fn refused(refusal: u64) -> Result<i64, u64> {
+    match refusal {
+        0 => Ok(0),
+        number => Err(number),
+    }
+}
+
+#[derive(Clone, Copy)]
+pub(crate) enum Asked {
+    // A kind, how many times which MWh and how many times which price, and a differential.
+    Bid(u64, usize, u64, usize, i64, u64),
+    // How many times which MWh, and how many times which price.
+    Exposure(usize, u64, usize, i64),
+    // A kind, a differential, a schedule and two prices.
+    Posted(u64, u64, u64, i64, i64),
+    // A kind, a schedule, the Day-Ahead price, the posted amount, the actual MWh and two prices.
+    Finished(u64, u64, i64, i64, u64, i64, i64),
+    // A kind, MWh and two prices.
+    Delivery(u64, u64, i64, i64),
+    Billed(i64),
+    // An interval's sum, that of each of the other three, its price, and each of theirs.
+    Closed(u64, u64, i64, i64),
+    // Load and supply.
+    SidesBid(Side, Side),
+    SidesPosted(Side, Side),
+}
+
+impl Asked {
+    pub(crate) fn answer(self, alloc: Global) -> Result<Result<i64, u64>, AllocError> {
+        Ok(match self {
+            Asked::Bid(kind, quantities, mwh, priced, price, differential) => {
+                let mwh = vec![in alloc; mwh; quantities]?;
+                let prices = vec![in alloc; price; priced]?;
+                bid(bids::bid(kind, &mwh, &prices, differential, false))
+            }
+            Asked::Exposure(quantities, mwh, priced, price) => {
+                let mwh = vec![in alloc; mwh; quantities]?;
+                let prices = vec![in alloc; price; priced]?;
+                figure(bids::price_exposure(&mwh, &prices))
+            }
+            Asked::Posted(kind, differential, schedule, price, second) => figure(formulas::posted(
+                kind,
+                differential,
+                false,
+                schedule,
+                price,
+                second,
+            )),
+            Asked::Finished(kind, schedule, day_ahead, posted, actual, price, second) => {
+                figure(formulas::finished(
+                    kind, false, schedule, day_ahead, posted, actual, price, second,
+                ))
+            }
+            Asked::Delivery(kind, mwh, price, second) => {
+                refused(deliveries::delivery_refusal(kind, mwh, price, second))
+            }
+            Asked::Billed(amount) => figure(formulas::billed(amount)),
+            Asked::Closed(mwh, others, price, other_prices) => figure(closings::closed(
+                Intervals {
+                    first: mwh,
+                    second: others,
+                    third: others,
+                    fourth: others,
+                },
+                Quote {
+                    first: price,
+                    second: other_prices,
+                    third: other_prices,
+                    fourth: other_prices,
+                },
+            )),
+            Asked::SidesBid(load, supply) => figure(virtuals::bid(load, supply)),
+            Asked::SidesPosted(load, supply) => figure(virtuals::posted(load, supply)),
+        })
+    }
+}
+
+impl fmt::Display for Asked {
+    fn fmt<W: fmt::Write>(&self, f: &mut fmt::Formatter<W>) -> fmt::Result {
+        match *self {
+            Asked::Bid(kind, quantities, mwh, priced, price, differential) => write!(
+                f,
+                "bid kind {kind} with {quantities} times {mwh} MWh and {priced} times price {price} differential {differential}"
+            ),
+            Asked::Exposure(quantities, mwh, priced, price) => write!(
+                f,
+                "price exposure with {quantities} times {mwh} MWh and {priced} times price {price}"
+            ),
+            Asked::Posted(kind, differential, schedule, price, second) => write!(
+                f,
+                "posted kind {kind} differential {differential} schedule {schedule} prices {price} and {second}"
+            ),
+            Asked::Finished(kind, schedule, day_ahead, posted, actual, price, second) => write!(
+                f,
+                "finished kind {kind} schedule {schedule} Day-Ahead {day_ahead} posted {posted} actual {actual} prices {price} and {second}"
+            ),
+            Asked::Delivery(kind, mwh, price, second) => write!(
+                f,
+                "delivery kind {kind} MWh {mwh} prices {price} and {second}"
+            ),
+            Asked::Billed(amount) => write!(f, "billed {amount}"),
+            Asked::Closed(mwh, others, price, other_prices) => write!(
+                f,
+                "closed MWh {mwh} and three times {others} prices {price} and three times {other_prices}"
+            ),
+            Asked::SidesBid(load, supply) => sides(f, "bid", load, supply),
+            Asked::SidesPosted(load, supply) => sides(f, "posted", load, supply),
+        }
+    }
+}
+
+fn sides<W: fmt::Write>(
+    f: &mut fmt::Formatter<W>,
+    stage: &str,
+    load: Side,
+    supply: Side,
+) -> fmt::Result {
+    write!(
+        f,
+        "sides {stage} load {} at {} supply {} at {}",
+        load.mwh, load.differential, supply.mwh, supply.differential
+    )
+}

@@ -1,9 +1,0 @@
--- The measure is what is left of the 64 bytes.
-use Prim.Native.Nat.{◌≤◌, ◌-◌}
-use Rattle.pace.proofs.read.Given as goal
-
-abbrev pub invariant-loop-i : goal.invariant-loop-i
-invariant-loop-i l = l.i ≤ 64
-
-abbrev pub decreases-loop-i : goal.decreases-loop-i
-decreases-loop-i l = 64 - l.i
