@@ -41,7 +41,9 @@ impl Case {
         Case::Close,
     ];
 
-    pub(crate) fn number(self) -> u64 {
+    pub(crate) fn number(self) -> u64
+        ensures { result < 16 }
+    {
         self as u64
     }
 

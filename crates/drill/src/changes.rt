@@ -1,5 +1,7 @@
 // How a book set aside is changed: one field of one place, the support, or a key that stands twice, at each limit of soundness and past it; or its kept
 // totals.
+ghost use Rattle.std.specs.Prelude.{◌<◌};
+
 use book::{Account, Kind, Record, Stage};
 
 // What a change sets, by the number that the table has. The numbers between `Twice` and `First` are those of the kept totals.
@@ -294,18 +296,21 @@ const TAMPERINGS: [(Total, Total); 16] = [
 // One of the ways to tamper with the kept totals.
 #[derive(Clone, Copy)]
 pub(crate) struct Tampering {
-    way: u64,
+    way: usize,
+    ghost is_one: { way < 16 },
 }
 
 impl Tampering {
     // They come by turns.
     pub(crate) fn of(nth: u64) -> Tampering {
-        Tampering { way: nth % 16 }
+        Tampering {
+            way: (nth % 16) as usize,
+        }
     }
 
     // The number that the table has, past those of a record's fields.
     pub(crate) fn number(self) -> u64 {
-        13 + self.way % 16
+        13 + self.way as u64
     }
 
     pub(crate) fn tampered(self, account: Account) -> Account {
@@ -314,7 +319,7 @@ impl Tampering {
             held,
             owed,
         } = account;
-        let (for_held, for_owed) = TAMPERINGS[(self.way % 16) as usize];
+        let (for_held, for_owed) = TAMPERINGS[self.way];
         Account {
             support,
             held: for_held.of(held, owed, support),

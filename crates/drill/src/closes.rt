@@ -70,14 +70,11 @@ pub(crate) fn pending(
     } else {
         (0, 1)
     };
-    let mut paths = Vec::new(alloc);
-    for i in 0..256u64 {
-        let r = &book.records[((start + i * step) % 256) as usize];
-        if is_pending(r, hour) {
-            paths.push(r.key.path)?;
-        }
-    }
-    Ok(paths)
+    (0..256u64)
+        .map(|i| &book.records[(start.wrapping_add(step.wrapping_mul(i)) % 256) as usize])
+        .filter(|r| is_pending(r, hour))
+        .map(|r| r.key.path)
+        .collect(alloc)
 }
 
 fn path_drawn(seed: u64, row: &[u64; 8]) -> u64 {

@@ -36,40 +36,47 @@ fn folded_cents(cents: i64) -> u64
     folded(cents.unsigned_abs()) * 2 + u64::from(cents < 0)
 }
 
+// A part of what stands for a place: a fourth of the largest value at most.
+#[derive(Drop)]
+struct Part {
+    value: u64,
+    ghost is_fourth: { value ≤ 2305843009213693952 },
+}
+
 // The number of the place, from 1 on, and the key of its record. Each value of a place has a multiplier of its own: its power of the generator's, modulo 2^25.
-fn of_key(number: u64, key: Key) -> u64
-    ensures { result ≤ 2305843009213693952 }
-{
-    folded(number) * 48_271
-        + folded(key.kind) * 14_833_634
-        + folded(key.path) * 16_326_470
-        + folded(key.hour) * 2_118_013
+fn of_key(number: u64, key: Key) -> Part {
+    Part {
+        value: folded(number) * 48_271
+            + folded(key.kind) * 14_833_634
+            + folded(key.path) * 16_326_470
+            + folded(key.hour) * 2_118_013,
+    }
 }
 
-fn of_bid(r: &Record) -> u64
-    ensures { result ≤ 2305843009213693952 }
-{
-    folded(r.stage) * 31_848_689
-        + folded(r.mwh) * 4_702_499
-        + folded(r.differential) * 32_160_337
-        + u64::from(r.exempt) * 15_855_705
+fn of_bid(r: &Record) -> Part {
+    Part {
+        value: folded(r.stage) * 31_848_689
+            + folded(r.mwh) * 4_702_499
+            + folded(r.differential) * 32_160_337
+            + u64::from(r.exempt) * 15_855_705,
+    }
 }
 
-fn of_amounts(r: &Record) -> u64
-    ensures { result ≤ 2305843009213693952 }
-{
-    folded(r.schedule) * 27_715_779
-        + folded_cents(r.price) * 19_622_527
-        + folded_cents(r.requirement) * 24_530_211
+fn of_amounts(r: &Record) -> Part {
+    Part {
+        value: folded(r.schedule) * 27_715_779
+            + folded_cents(r.price) * 19_622_527
+            + folded_cents(r.requirement) * 24_530_211,
+    }
 }
 
-fn of_intervals(mwh: Intervals) -> u64
-    ensures { result ≤ 2305843009213693952 }
-{
-    folded(mwh.first) * 29_023_087
-        + folded(mwh.second) * 8_814_763
-        + folded(mwh.third) * 27_255_117
-        + folded(mwh.fourth) * 29_621_929
+fn of_intervals(mwh: Intervals) -> Part {
+    Part {
+        value: folded(mwh.first) * 29_023_087
+            + folded(mwh.second) * 8_814_763
+            + folded(mwh.third) * 27_255_117
+            + folded(mwh.fourth) * 29_621_929,
+    }
 }
 
 fn has_none(mwh: Intervals) -> bool {
@@ -91,8 +98,9 @@ pub(crate) fn mix_place(digest: u64, number: u64, r: &Record) -> u64 {
     if is_zero(r) {
         return digest;
     }
+    let bid = of_key(number, r.key).value + of_bid(r).value;
     mix_whole(
         digest,
-        of_key(number, r.key) + of_bid(r) + of_amounts(r) + of_intervals(r.intervals),
+        bid + of_amounts(r).value + of_intervals(r.intervals).value,
     )
 }

@@ -5,6 +5,7 @@ use crate::digest::mix;
 use crate::generator::{Choice, draw, has};
 use crate::{generator, values};
 use std::alloc::{AllocError, Global};
+use std::iter;
 
 // How many points each interval is said to have, and how many MWh and how many prices there are.
 #[derive(Clone, Copy)]
@@ -174,47 +175,42 @@ pub(crate) fn faulty_place<T>(seed: u64, list: &mut [T]) -> Option<&mut T> {
     }
 }
 
-// A list of so many values, each of the next number from a first one on. Its fault puts one out of range among them.
-fn drawn<T: Copy, F: Fn(u64) -> T>(
+// So many values, each of the next number from a first one on.
+fn drawn<T: Drop, F: Fn(u64) -> T>(
     alloc: Global,
-    seed: u64,
-    count: u64,
     first: u64,
+    count: u64,
     value: F,
-    fault: u64,
-    out: &[T; 8],
 ) -> Result<Vec<T>, AllocError>
-    requires { F.IsAlwaysCallable value }
+    requires { (f : _) (a : _) → F.FnMut.pre f a }
 {
-    let mut list = Vec::new(alloc);
-    let mut x = first;
-    for _ in 0..count {
-        x = generator::next(x);
-        list.push(value(x))?;
-    }
+    iter::successors(Some(generator::next(first)), |x| Some(generator::next(*x)))
+        .take(count as usize)
+        .map(value)
+        .collect(alloc)
+}
+
+// A fault puts one out of range among them.
+fn put_out<T: Copy>(seed: u64, list: &mut [T], fault: u64, out: &[T; 8]) {
     if has(seed, fault) {
-        if let Some(place) = faulty_place(seed, &mut list) {
+        if let Some(place) = faulty_place(seed, list) {
             *place = values::one_of(out, draw(seed, Choice::Count) / 512);
         }
     }
-    Ok(list)
 }
 
+// The quantities.
 pub(crate) fn mwh_points(alloc: Global, seed: u64, count: u64) -> Result<Vec<u64>, AllocError> {
-    let first = draw(seed, Choice::Points);
-    drawn(
-        alloc,
-        seed,
-        count,
-        first,
-        values::mwh,
-        6,
-        &values::POINT_MWH_OUT,
-    )
+    let mut list = drawn(alloc, draw(seed, Choice::Points), count, values::mwh)?;
+    put_out(seed, &mut list, 6, &values::POINT_MWH_OUT);
+    Ok(list)
 }
 
 pub(crate) fn price_points(alloc: Global, seed: u64, count: u64) -> Result<Vec<i64>, AllocError> {
     let first = mix(draw(seed, Choice::Points), 7);
-    let price = |x| values::price_or(&values::PRICES, x);
-    drawn(alloc, seed, count, first, price, 7, &values::PRICES_OUT)
+    let mut list = drawn(alloc, first, count, |x| {
+        values::price_or(&values::PRICES, x)
+    })?;
+    put_out(seed, &mut list, 7, &values::PRICES_OUT);
+    Ok(list)
 }

@@ -193,7 +193,7 @@ impl Counts {
     // An answer, and where it is a refusal with a later fault beside it, that; for four curves and a close one more.
     pub(crate) fn count_answer(&mut self, seed: u64, case: Case, lists_none: bool, number: u64) {
         let at = number % NUMBERS;
-        self.add(ANSWERS + case.number() % 16 * NUMBERS + at);
+        self.add(ANSWERS + case.number() * NUMBERS + at);
         let later = [Choice::Fault, Choice::SecondFault].iter().any(|choice| {
             let fault = draw(seed, *choice) % 32;
             number < fault && concerns(case, lists_none, fault)
@@ -209,7 +209,7 @@ impl Counts {
     }
 
     pub(crate) fn count_accepted(&mut self, case: Case, kind: u64) {
-        self.add(KINDS + case.number() % 16 * KINDS_TO_A_MESSAGE + kind % KINDS_TO_A_MESSAGE);
+        self.add(KINDS + case.number() * KINDS_TO_A_MESSAGE + kind % KINDS_TO_A_MESSAGE);
     }
 
     // A record of kind 5 was named at a stage: the message was accepted, or refused 12.
