@@ -91,9 +91,8 @@ struct Seen {
     aside: Account,
 }
 
-// Field by field, since an account derives no equality.
 fn same_totals(a: Account, b: Account) -> bool {
-    a.held == b.held && a.owed == b.owed
+    (a.held, a.owed) == (b.held, b.owed)
 }
 
 impl Seen {

@@ -216,7 +216,7 @@ fn quantity_of(seed: u64, r: &Record) -> u64 {
     };
     match w % 8 {
         0 => 0,
-        1 | 2 | 3 => mwh,
+        1..=3 => mwh,
         4 => mwh % 640_000 + 1,
         5 => 640_000,
         6 => r.schedule,

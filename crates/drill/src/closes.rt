@@ -42,10 +42,7 @@ pub(crate) enum ListsFault {
 }
 
 pub(crate) fn lists_fault(seed: u64) -> Option<ListsFault> {
-    if !has(seed, 5) {
-        return None;
-    }
-    Some(match draw(seed, Choice::Count) % 4 {
+    has(seed, 5).then(|| match draw(seed, Choice::Count) % 4 {
         0 => ListsFault::PathTwice,
         1 => ListsFault::OnePriceShort,
         2 => ListsFault::OnePriceTooMany,
@@ -81,36 +78,47 @@ fn path_drawn(seed: u64, row: &[u64; 8]) -> u64 {
     one_of(row, draw(seed, Choice::Path))
 }
 
-// What is listed, where these are pending and the record drawn is r.
-pub(crate) fn listed(pending: Vec<u64>, seed: u64, r: &Record) -> Result<Vec<u64>, AllocError> {
-    let mut paths = pending;
+fn list_by_way(paths: &mut Vec<u64>, seed: u64, r: &Record) -> Result<(), AllocError> {
     match Way::of(seed) {
-        Way::LeavesOut => {
-            let _ = paths.pop();
-        }
+        Way::LeavesOut => paths.truncate(paths.len().saturating_sub(1)),
         Way::AddsOne if r.stage == Stage::FREE => paths.push(path_drawn(seed, &values::PATHS))?,
         Way::AddsOne => paths.push(r.key.path)?,
         Way::ListsNone => paths.clear(),
         Way::AsPending | Way::NamesAnotherHour => (),
     }
-    // Fault 3 puts a path out of range: the first, or the last; where there is none, it stands alone.
-    if has(seed, 3) {
-        let out = path_drawn(seed, &values::PATHS_OUT);
-        match points::faulty_place(seed, &mut paths) {
-            Some(path) => *path = out,
-            None => paths.push(out)?,
-        }
+    Ok(())
+}
+
+// The first path or the last is out of range; where there is none, such a path is listed alone.
+fn put_path_out(paths: &mut Vec<u64>, seed: u64) -> Result<(), AllocError> {
+    let out = path_drawn(seed, &values::PATHS_OUT);
+    match points::faulty_place(seed, paths) {
+        Some(path) => *path = out,
+        None => paths.push(out)?,
     }
-    // Fault 5, by one of its ways, lists the first path again; where there is none, a path twice.
+    Ok(())
+}
+
+// The first path is listed again; where there is none, a path twice.
+fn list_path_twice(paths: &mut Vec<u64>, seed: u64) -> Result<(), AllocError> {
+    if paths.is_empty() {
+        paths.push(path_drawn(seed, &values::PATHS))?;
+    }
+    if let Some(first) = paths.first().copied() {
+        paths.push(first)?;
+    }
+    Ok(())
+}
+
+// What is listed, where these are pending and the record drawn is r.
+pub(crate) fn listed(pending: Vec<u64>, seed: u64, r: &Record) -> Result<Vec<u64>, AllocError> {
+    let mut paths = pending;
+    list_by_way(&mut paths, seed, r)?;
+    if has(seed, 3) {
+        put_path_out(&mut paths, seed)?;
+    }
     if lists_fault(seed) == Some(ListsFault::PathTwice) {
-        let path = paths
-            .first()
-            .copied()
-            .unwrap_or(path_drawn(seed, &values::PATHS));
-        if paths.is_empty() {
-            paths.push(path)?;
-        }
-        paths.push(path)?;
+        list_path_twice(&mut paths, seed)?;
     }
     Ok(paths)
 }

@@ -35,10 +35,7 @@ pub(crate) enum CurvesFault {
 }
 
 pub(crate) fn curves_fault(seed: u64) -> Option<CurvesFault> {
-    if !has(seed, 5) {
-        return None;
-    }
-    Some(match draw(seed, Choice::Count) % 8 {
+    has(seed, 5).then(|| match draw(seed, Choice::Count) % 8 {
         0 => CurvesFault::Empty,
         1 => CurvesFault::TooLong,
         2 => CurvesFault::OnePriceMore,

@@ -36,7 +36,7 @@ const WRONG_STAGE: u64 = 1_000;
 // The rows that stand for one thing each.
 #[derive(Clone, Copy)]
 pub(crate) enum Row {
-    // Two refusals that the book's state brings at once; then those of four curves, and that of a post of kind 5.
+    // PAIRS: two refusals that the book's state brings at once; then those of four curves, and that of a post of kind 5.
     TenOverFifteen = 672,
     TwelveOverThirteen,
     FourteenOverFifteen,
@@ -47,34 +47,34 @@ pub(crate) enum Row {
     CurvesFourteenOverFifteen,
     CurvesTwelveOverFourteen,
     QuartersTwelveOverThirteen,
-    // A fresh book.
+    // FRESH: a fresh book.
     FreshAccepted = 704,
     FreshRefused,
-    // The import test.
+    // TESTS: the import test.
     Exempt = 708,
     NotExempt,
     TestRefused,
-    // The lookup.
+    // LOOKS: the lookup.
     LookAnswered = 712,
     LookRefused,
-    // Suspension seen on, and off; then a screen told of it, and of none, by totals that are not those of the records.
+    // SUSPENSION: seen on, and off; then a screen told of it, and of none, by totals that are not those of the records.
     SuspensionOn = 716,
     SuspensionOff,
     ToldSuspended,
     ToldNotSuspended,
-    // A freed place used again; then turns with 0, 255 and 256 open records.
+    // PLACES: a freed place used again; then turns with 0, 255 and 256 open records.
     PlaceUsedAgain = 720,
     NoneOpen,
     AllButOneOpen,
     AllOpen,
-    // Open, then revise, that leaves held equal to support, and that is one cent above it; suspended at twice net owed, and not at one cent more.
+    // EDGES: open, then revise, that leaves held equal to support, and that is one cent above it; suspended at twice net owed, and not at one cent more.
     OpenAtSupport = 728,
     OpenOneCentAbove,
     ReviseAtSupport,
     ReviseOneCentAbove,
     SuspendedAtTwiceOwed,
     OpenOneCentBelowTwiceOwed,
-    // A close that was accepted: by turns its batch kept, and removed.
+    // CLOSES: one that was accepted, by turns its batch kept, and removed.
     BatchKept = 736,
     BatchRemoved,
     KeptAtSupport,
@@ -104,14 +104,14 @@ pub(crate) enum Row {
     LastPathOut,
     FirstPriceOut,
     LastPriceOut,
-    // A rebuilt book: a sound one given back; sound again and refused, or accepted; support, keys, or a place still wrong.
+    // REBUILT: a sound book given back; sound again and refused, or accepted; support, keys, or a place still wrong.
     RebuiltAsItWas = 960,
     SoundAgainAndRefused,
     SoundAgainAndAccepted,
     StillUnsoundBySupport,
     StillUnsoundByAKey,
     StillUnsoundByAPlace,
-    // Four curves accepted: with held above support, an open and a revise; an interval empty; 64 points in each.
+    // QUARTERS: four curves accepted, with held above support, an open and a revise; an interval empty; 64 points in each.
     OpenAboveSupport = 976,
     ReviseAboveSupport,
     AnIntervalEmpty,
@@ -128,7 +128,7 @@ pub(crate) enum Row {
     FourCurvesForOne,
     // A changed book: a pending bid with a requirement.
     PendingRequirement,
-    // The lookup by edition: answered in the older one, import and export, and in the newer; refused for the edition alone, for an export in the newer alone, and for
+    // EDITIONS: the lookup answered in the older one, import and export, and in the newer; refused for the edition alone, for an export in the newer alone, and for
     // an import in the newer that is out of range.
     OlderImport = 1_008,
     OlderExport,
