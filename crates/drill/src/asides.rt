@@ -2,12 +2,12 @@
 // looked at.
 ghost use Rattle.std.specs.Prelude.{◌<◌};
 
-use crate::ask::Ask;
 use crate::changes::{Change, Field, Tampering};
 use crate::digest::mix;
 use crate::generator::{Choice, draw};
 use crate::rows::{Counts, Row};
 use crate::tally::Tally;
+use crate::trials::Sent;
 use crate::{changes, trials};
 use book::{Account, Book, Record};
 
@@ -85,7 +85,7 @@ struct Seen {
     number: u64,
     sound: bool,
     told: bool,
-    was_sound: bool,
+    was_sound: Option<bool>,
     now: Account,
     before: Account,
     aside: Account,
@@ -109,8 +109,8 @@ impl Seen {
         }
     }
 
-    fn sound_again_row(&self) -> Option<Row> {
-        if self.was_sound {
+    fn sound_again_row(&self, was_sound: bool) -> Option<Row> {
+        if was_sound {
             same_totals(self.aside, self.before).then_some(Row::RebuiltAsItWas)
         } else if !same_totals(self.aside, self.now) {
             None
@@ -131,26 +131,22 @@ impl Seen {
         }
     }
 
-    fn rebuilt_row(&self, edit: Edit) -> Option<Row> {
+    fn rebuilt_row(&self, was_sound: bool, edit: Edit) -> Option<Row> {
         match (self.sound, self.refused()) {
-            (true, false) => self.sound_again_row(),
+            (true, false) => self.sound_again_row(was_sound),
             (false, true) => self.still_unsound_row(edit),
             _ => None,
         }
     }
 
-    fn count(&self, counts: &mut Counts, turn: u64) {
-        let edit = Edit::of(turn);
-        if rebuilds(turn) {
-            counts.count_any(self.rebuilt_row(edit));
-            return;
-        }
-        match edit {
-            Edit::Tampers(tampering) => {
+    fn count(&self, counts: &mut Counts, edit: Edit) {
+        match (self.was_sound, edit) {
+            (Some(was_sound), _) => counts.count_any(self.rebuilt_row(was_sound, edit)),
+            (None, Edit::Tampers(tampering)) => {
                 counts.count_any(self.told_row());
                 counts.count_change(tampering.number(), self.sound, self.refused());
             }
-            Edit::Changes(change) => {
+            (None, Edit::Changes(change)) => {
                 counts.count_change(change.field.number(), self.sound, self.refused());
                 let refused = !self.sound && self.refused();
                 counts.count_if(
@@ -165,17 +161,19 @@ impl Seen {
 // ---- the message
 
 // What a screen asks of the book that the turn sets aside, and the turn's message to it, with its lists.
-pub(crate) fn probed(book: &Book, tally: &mut Tally, ask: &Ask, mwh: &[u64], prices: &[i64]) {
+pub(crate) fn probed(book: &Book, tally: &mut Tally, sent: &Sent) {
+    let ask = &sent.ask;
     let mut aside = *book;
-    apply(&mut aside, Edit::of(tally.turn), place(tally.seed));
+    let edit = Edit::of(tally.turn);
+    apply(&mut aside, edit, place(tally.seed));
     let before = aside.account;
-    let mut was_sound = false;
+    let mut was_sound = None;
     if rebuilds(tally.turn) {
-        was_sound = aside.is_sound();
+        was_sound = Some(aside.is_sound());
         aside = Book::rebuilt(before.support, aside.records);
     }
     tally.digest = trials::screened(&aside, tally.digest);
-    let outcome = aside.apply(ask.message(), mwh, prices);
+    let outcome = aside.apply(ask.message(), &sent.numbers, &sent.prices);
     let seen = Seen {
         number: outcome.answer.number(),
         sound: aside.is_sound(),
@@ -190,7 +188,7 @@ pub(crate) fn probed(book: &Book, tally: &mut Tally, ask: &Ask, mwh: &[u64], pri
             .counts
             .count_answer(tally.seed, ask.case, ask.lists_none(), seen.number);
     }
-    seen.count(&mut tally.counts, tally.turn);
+    seen.count(&mut tally.counts, edit);
     tally.answered(outcome.answer);
     let given_back = trials::all_mixed(&outcome.book, tally.digest);
     tally.digest = mix(given_back, u64::from(seen.sound));

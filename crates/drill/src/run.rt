@@ -1,10 +1,10 @@
 // A run: turn after turn, each on the book that the last one left.
-use crate::ask::{Ask, Case};
+use crate::ask::Case;
 use crate::rows::Row;
 use crate::tally::{Tally, Turn};
-use crate::{asides, ask, closes, points, questions, report, trials, values};
-use book::{Book, Record};
-use std::alloc::{AllocError, Global};
+use crate::trials::Sent;
+use crate::{asides, ask, questions, report, trials, values};
+use book::Book;
 use std::io;
 use std::ops::Range;
 
@@ -37,41 +37,6 @@ fn begun(tally: &mut Tally, support: i64) -> Book {
     outcome.book
 }
 
-// The message that is drawn, with its two lists.
-#[derive(Drop)]
-struct Sent {
-    ask: Ask,
-    numbers: Vec<u64>,
-    prices: Vec<i64>,
-}
-
-impl Sent {
-    fn drawn(alloc: Global, tally: &Tally, book: &Book, r: &Record) -> Result<Sent, AllocError> {
-        let seed = tally.seed;
-        let mut ask = Ask::of(seed, r, &tally.standing());
-        let numbers = if ask.case == Case::Close {
-            let pending = closes::pending(alloc, book, ask.key.hour, seed)?;
-            let bids = pending.len();
-            let paths = closes::listed(pending, seed, r)?;
-            ask = ask.closing(seed, bids, paths.len());
-            paths
-        } else {
-            points::mwh_points(alloc, seed, ask.lengths.numbers)?
-        };
-        let prices = points::price_points(alloc, seed, ask.lengths.prices)?;
-        Ok(Sent {
-            ask,
-            numbers,
-            prices,
-        })
-    }
-
-    // The held amount that the message would leave with the largest support.
-    fn tried(&self, book: &Book) -> i64 {
-        trials::tried(book, self.ask.message(), &self.numbers, &self.prices)
-    }
-}
-
 fn turn<R: Print + AllocGlobal>(
     rt: &R,
     plan: &Plan,
@@ -81,7 +46,7 @@ fn turn<R: Print + AllocGlobal>(
     let seed = tally.seed;
     let account = book.account;
     let record = book.records[ask::place(seed, tally.open)];
-    let mut sent = Sent::drawn(rt.alloc(), tally, book, &record)?;
+    let mut sent = Sent::drawn(rt.alloc(), seed, &tally.standing(), book, &record)?;
     let tight = sent.ask.is_tight(seed, &tally.standing());
     if tight {
         sent.ask = sent.ask.funding(seed, sent.tried(book));
@@ -89,7 +54,7 @@ fn turn<R: Print + AllocGlobal>(
     let ask = sent.ask;
     tally.digest = questions::answered(seed, tally.digest, &mut tally.counts);
     if tally.turn % 4 == 3 {
-        asides::probed(book, tally, &ask, &sent.numbers, &sent.prices);
+        asides::probed(book, tally, &sent);
     }
     if tally.turn % 64 == 0 {
         tally.digest = trials::shown(book, tally.digest);

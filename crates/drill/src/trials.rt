@@ -1,13 +1,51 @@
 // What the drill does with a book beside sending it the turn's message: it tries that with the largest support, and digests all that a book holds and a screen asks.
+use crate::ask::{Ask, Case, Standing};
 use crate::digest::{mix, mix_cents, mix_place};
-use crate::values;
-use book::{Account, Book, Message};
+use crate::{closes, points, values};
+use book::{Account, Book, Record};
+use std::alloc::{AllocError, Global};
 
-// The held amount that the message would leave with the largest support.
-pub(crate) fn tried(book: &Book, message: Message, mwh: &[u64], prices: &[i64]) -> i64 {
-    let mut aside = *book;
-    aside.account = book.account.supported(values::MOST_SUPPORT);
-    aside.apply(message, mwh, prices).answer.held()
+// The message that is drawn, with its two lists.
+#[derive(Drop)]
+pub(crate) struct Sent {
+    pub(crate) ask: Ask,
+    pub(crate) numbers: Vec<u64>,
+    pub(crate) prices: Vec<i64>,
+}
+
+impl Sent {
+    pub(crate) fn drawn(
+        alloc: Global,
+        seed: u64,
+        now: &Standing,
+        book: &Book,
+        r: &Record,
+    ) -> Result<Sent, AllocError> {
+        let mut ask = Ask::of(seed, r, now);
+        let numbers = if ask.case == Case::Close {
+            let pending = closes::pending(alloc, book, ask.key.hour, seed)?;
+            let bids = pending.len();
+            let paths = closes::listed(pending, seed, r)?;
+            ask = ask.closing(seed, bids, paths.len());
+            paths
+        } else {
+            points::mwh_points(alloc, seed, ask.lengths.numbers)?
+        };
+        let prices = points::price_points(alloc, seed, ask.lengths.prices)?;
+        Ok(Sent {
+            ask,
+            numbers,
+            prices,
+        })
+    }
+
+    // The held amount that the message would leave with the largest support.
+    pub(crate) fn tried(&self, book: &Book) -> i64 {
+        let mut aside = *book;
+        aside.account = book.account.supported(values::MOST_SUPPORT);
+        let outcome = aside.apply(self.ask.message(), &self.numbers, &self.prices);
+        outcome.answer.held()
+    }
 }
 
 // What a book keeps beside its records.
