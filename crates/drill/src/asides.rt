@@ -2,110 +2,77 @@
 // looked at.
 ghost use Rattle.std.specs.Prelude.{◌<◌};
 
-use crate::ask::Ask;
+use crate::changes::{Change, Field, Tampering};
 use crate::digest::mix;
-use crate::generator::draw;
-use crate::rows::{Counts, QUARTERS, REBUILT, SUSPENSION};
+use crate::generator::{Choice, draw};
+use crate::rows::{Counts, Row};
 use crate::tally::Tally;
-use crate::{changes, generator, rows, trials};
+use crate::trials::Sent;
+use crate::{changes, trials};
 use book::{Account, Book, Record};
-use refusals::pick;
 
 // ---- which books
 
-// Whether the book that was set aside is rebuilt.
+// What is set in the book that a turn sets aside: a field, or its kept totals.
+#[derive(Clone, Copy)]
+enum Edit {
+    Changes(Change),
+    Tampers(Tampering),
+}
+
+impl Edit {
+    fn of(turn: u64) -> Edit {
+        match turn % 32 {
+            3 | 19 => Edit::Tampers(Tampering::of(turn / 16)),
+            11 => Edit::Tampers(Tampering::of(turn / 32)),
+            27 => Edit::Changes(Change::of(turn / 32)),
+            _ => Edit::Changes(Change::of(turn / 8)),
+        }
+    }
+
+    fn sets_support(self) -> bool {
+        match self {
+            Edit::Changes(change) => change.field == Field::Support,
+            Edit::Tampers(_) => false,
+        }
+    }
+}
+
+// Whether the book is rebuilt after that.
 fn rebuilds(turn: u64) -> bool {
     turn % 16 == 11
 }
 
-// Whether it is the kept totals that are changed, and not a field.
-fn tampers(turn: u64) -> bool {
-    (turn % 16 == 3) | (turn % 32 == 11)
-}
-
-// Which of its way's turns this is.
-fn nth(turn: u64) -> u64 {
-    pick(
-        rebuilds(turn),
-        turn / 32,
-        pick(tampers(turn), turn / 16, turn / 8),
-    )
-}
-
-fn change(turn: u64) -> u64 {
-    nth(turn) % changes::COUNT
-}
-
-fn tampering(turn: u64) -> u64
-    ensures { result < 16 }
-{
-    nth(turn) % changes::TAMPERINGS
-}
-
 // ---- the books
 
-// What may change of a book: what it keeps beside its records, and two of its places. A function that takes a book copies all of it, one that takes this does not.
-#[derive(Clone, Copy)]
-struct Part {
-    account: Account,
-    first: Record,
-    second: Record,
+// The place that is drawn; what is set there may stand as far from the end too.
+fn place(seed: u64) -> usize
+    ensures { result < 256 }
+{
+    (draw(seed, Choice::Day) / 16 % 256) as usize
 }
 
-impl Part {
-    // The first place with another record, and the kept totals that follow.
-    fn with_first(self, r: Record) -> Part {
-        let second = self.second;
-        let account = self.account;
-        let old = self.first;
-        Part {
-            account: changes::followed(account, old, r),
-            first: r,
-            second,
-        }
-    }
+// Another record at a place, and the kept totals that follow.
+fn set(book: &mut Book, at: usize, r: Record)
+    requires { at < 256 }
+{
+    book.account = changes::followed(book.account, &book.records[at], &r);
+    book.records[at] = r;
+}
 
-    fn with_second(self, r: Record) -> Part {
-        let first = self.first;
-        let account = self.account;
-        let old = self.second;
-        Part {
-            account: changes::followed(account, old, r),
-            first,
-            second: r,
-        }
-    }
-
-    fn with_account(self, account: Account) -> Part {
-        let first = self.first;
-        let second = self.second;
-        Part {
-            account,
-            first,
-            second,
-        }
-    }
-
-    fn changed(self, change: u64) -> Part {
-        let field = changes::field(change);
-        let account = self.account;
-        if field == changes::SUPPORT {
-            return self.with_account(account.supported(changes::value(change)));
-        }
-        let r = changes::record(change);
-        let once = self.with_first(r);
-        if field == changes::TWICE {
-            return once.with_second(r);
-        }
-        once
-    }
-
-    fn set_for(self, turn: u64) -> Part {
-        let account = self.account;
-        if tampers(turn) {
-            return self.with_account(changes::tampered(account, tampering(turn)));
-        }
-        self.changed(change(turn))
+fn apply(book: &mut Book, edit: Edit, at: usize)
+    requires { at < 256 }
+{
+    match edit {
+        Edit::Tampers(tampering) => book.account = tampering.tampered(book.account),
+        Edit::Changes(change) => match change.field {
+            Field::Support => book.account = book.account.supported(change.value),
+            Field::Twice => {
+                set(book, at, change.record());
+                set(book, 255 - at, change.record());
+            }
+            _ => set(book, at, change.record()),
+        },
     }
 }
 
@@ -118,168 +85,111 @@ struct Seen {
     number: u64,
     sound: bool,
     told: bool,
-    was_sound: bool,
+    was_sound: Option<bool>,
     now: Account,
     before: Account,
     aside: Account,
 }
 
 fn same_totals(a: Account, b: Account) -> bool {
-    (a.held == b.held) & (a.owed == b.owed)
+    (a.held, a.owed) == (b.held, b.owed)
 }
 
 impl Seen {
-    fn refused(self) -> bool {
+    fn refused(&self) -> bool {
         self.number == 1
     }
 
     // What a screen is told of suspension, where the records say otherwise.
-    fn told_row(self) -> u64 {
-        let now = self.now;
-        pick(
-            self.told == now.suspended(),
-            0,
-            pick(self.told, SUSPENSION + 2, SUSPENSION + 3),
-        )
+    fn told_row(&self) -> Option<Row> {
+        match (self.told, self.now.suspended()) {
+            (true, false) => Some(Row::ToldSuspended),
+            (false, true) => Some(Row::ToldNotSuspended),
+            _ => None,
+        }
     }
 
-    // A pending bid that was given a requirement.
-    fn pending_row(self, change: u64) -> u64 {
-        let refused = !self.sound & self.refused();
-        pick(
-            refused & changes::gives_pending_a_requirement(change),
-            QUARTERS + 13,
-            0,
-        )
-    }
-
-    fn sound_again_row(self) -> u64 {
-        let again = pick(self.number == 0, REBUILT + 2, REBUILT + 1);
-        let aside = self.aside;
-        pick(
-            self.was_sound,
-            pick(same_totals(aside, self.before), REBUILT, 0),
-            pick(same_totals(aside, self.now), again, 0),
-        )
-    }
-
-    fn still_unsound_row(self, turn: u64) -> u64 {
-        let by_support = (changes::field(change(turn)) == changes::SUPPORT) & !tampers(turn);
-        let still = pick(by_support, REBUILT + 3, REBUILT + 4);
-        let aside = self.aside;
-        let as_before = same_totals(aside, self.before);
-        pick(
-            (aside.held == 0) & (aside.owed == 0),
-            pick(as_before, 0, REBUILT + 5),
-            pick(as_before, still, 0),
-        )
-    }
-
-    fn rebuilt_row(self, turn: u64) -> u64 {
-        pick(
-            self.sound == self.refused(),
-            0,
-            pick(
-                self.sound,
-                self.sound_again_row(),
-                self.still_unsound_row(turn),
-            ),
-        )
-    }
-
-    fn field_row(self, field: u64) -> u64 {
-        rows::of_change(field, self.sound, self.refused())
-    }
-
-    fn count(self, counts: &mut Counts, turn: u64) {
-        if rebuilds(turn) {
-            rows::count(counts, self.rebuilt_row(turn));
-        } else if tampers(turn) {
-            rows::count(counts, self.told_row());
-            rows::count(counts, self.field_row(changes::TOTALS + tampering(turn)));
+    fn sound_again_row(&self, was_sound: bool) -> Option<Row> {
+        if was_sound {
+            same_totals(self.aside, self.before).then_some(Row::RebuiltAsItWas)
+        } else if !same_totals(self.aside, self.now) {
+            None
+        } else if self.number == 0 {
+            Some(Row::SoundAgainAndAccepted)
         } else {
-            let change = change(turn);
-            rows::count(counts, self.field_row(changes::field(change)));
-            rows::count(counts, self.pending_row(change));
+            Some(Row::SoundAgainAndRefused)
+        }
+    }
+
+    fn still_unsound_row(&self, edit: Edit) -> Option<Row> {
+        let none = self.aside.held == 0 && self.aside.owed == 0;
+        match (none, same_totals(self.aside, self.before)) {
+            (true, false) => Some(Row::StillUnsoundByAPlace),
+            (false, true) if edit.sets_support() => Some(Row::StillUnsoundBySupport),
+            (false, true) => Some(Row::StillUnsoundByAKey),
+            _ => None,
+        }
+    }
+
+    fn rebuilt_row(&self, was_sound: bool, edit: Edit) -> Option<Row> {
+        match (self.sound, self.refused()) {
+            (true, false) => self.sound_again_row(was_sound),
+            (false, true) => self.still_unsound_row(edit),
+            _ => None,
+        }
+    }
+
+    fn count(&self, counts: &mut Counts, edit: Edit) {
+        match (self.was_sound, edit) {
+            (Some(was_sound), _) => counts.count_any(self.rebuilt_row(was_sound, edit)),
+            (None, Edit::Tampers(tampering)) => {
+                counts.count_any(self.told_row());
+                counts.count_change(tampering.number(), self.sound, self.refused());
+            }
+            (None, Edit::Changes(change)) => {
+                counts.count_change(change.field.number(), self.sound, self.refused());
+                let refused = !self.sound && self.refused();
+                counts.count_if(
+                    refused && change.gives_pending_a_requirement(),
+                    Row::PendingRequirement,
+                );
+            }
         }
     }
 }
 
 // ---- the message
 
-// The place that is drawn; what is set there may stand as far from the end too.
-fn place(seed: u64) -> usize
-    ensures { result < 256 }
-{
-    (draw(seed, generator::DAY) / 16 % 256) as usize
-}
-
-// The run's book with what the turn sets in it.
-fn set_aside(book: Book, tally: Tally) -> Book {
-    let at = place(tally.seed);
-    let twin = 255 - at;
-    let account = book.account;
-    let old = Part {
-        account,
-        first: book.records[at],
-        second: book.records[twin],
-    };
-    let part = old.set_for(tally.turn);
-    let kept = part.account;
-    let first = part.first;
-    let second = part.second;
-    let mut aside = book;
-    aside.account = kept;
-    aside.records[at] = first;
-    aside.records[twin] = second;
-    aside
-}
-
 // What a screen asks of the book that the turn sets aside, and the turn's message to it, with its lists.
-pub(crate) fn probed(
-    book: Book,
-    tally: Tally,
-    counts: &mut Counts,
-    ask: Ask,
-    mwh: &[u64],
-    prices: &[i64],
-) -> Tally {
-    let now = book.account;
-    let mut aside = set_aside(book, tally);
+pub(crate) fn probed(book: &Book, tally: &mut Tally, sent: &Sent) {
+    let ask = &sent.ask;
+    let mut aside = *book;
+    let edit = Edit::of(tally.turn);
+    apply(&mut aside, edit, place(tally.seed));
     let before = aside.account;
-    let mut was_sound = false;
+    let mut was_sound = None;
     if rebuilds(tally.turn) {
-        was_sound = aside.is_sound();
-        let records = aside.records;
-        aside = Book::rebuilt(before.support, records);
+        was_sound = Some(aside.is_sound());
+        aside = Book::rebuilt(before.support, aside.records);
     }
-    let kept = aside.account;
-    let told = aside.suspended();
-    let mut asked = tally;
-    asked.digest = trials::screened(aside, tally.digest);
-    let outcome = aside.apply(ask.message(), mwh, prices);
-    let answer = outcome.answer;
-    let number = answer.number();
-    // Last of what is asked of the book, so that it needs no copy of it.
-    let sound = aside.is_sound();
-    if number == 1 {
-        rows::count_answer(counts, tally.seed, ask.message, ask.lists_none(), 1);
-    }
+    tally.digest = trials::screened(&aside, tally.digest);
+    let outcome = aside.apply(ask.message(), &sent.numbers, &sent.prices);
     let seen = Seen {
-        number,
-        sound,
-        told,
+        number: outcome.answer.number(),
+        sound: aside.is_sound(),
+        told: aside.suspended(),
         was_sound,
-        now,
+        now: book.account,
         before,
-        aside: kept,
+        aside: aside.account,
     };
-    seen.count(counts, tally.turn);
-    let mut next = asked.answered(answer);
-    let given_back = outcome.book;
-    next.digest = mix(
-        trials::all_mixed(given_back, next.digest),
-        pick(sound, 1, 0),
-    );
-    next
+    if seen.refused() {
+        tally
+            .counts
+            .count_answer(tally.seed, ask.case, ask.lists_none(), seen.number);
+    }
+    seen.count(&mut tally.counts, edit);
+    tally.answered(outcome.answer);
+    let given_back = trials::all_mixed(&outcome.book, tally.digest);
+    tally.digest = mix(given_back, u64::from(seen.sound));
 }

@@ -1,275 +1,240 @@
 // How a book set aside is changed: one field of one place, the support, or a key that stands twice, at each limit of soundness and past it; or its kept
 // totals.
-use crate::values;
-use crate::values::{I64_MAX, I64_MIN, either, moved, one_less, one_more};
+ghost use Rattle.std.specs.Prelude.{◌<◌};
+
 use book::{Account, Kind, Record, Stage};
-use refusals::pick;
 
-// Fields, 18; for each, 8 values, 6 stages (0 is a free place) and 5 kinds.
-pub(crate) const COUNT: u64 = 4_320;
-
-// The fields past a record's own.
-pub(crate) const SUPPORT: u64 = 11;
-
-pub(crate) const TWICE: u64 = 12;
-
-// The fields from here on: each way to tamper with the kept totals.
-pub(crate) const TOTALS: u64 = 13;
-
-pub(crate) const TAMPERINGS: u64 = 16;
-
-// The fields after those: the four interval sums, and the requirement again.
-const INTERVALS: u64 = 29;
-
-const REQUIREMENT: u64 = 33;
-
-// What each field is set to, 8 values for each.
-const VALUES: [i64; 144] = [
-    // Kind.
-    0,
-    1,
-    2,
-    3,
-    4,
-    5,
-    6,
-    I64_MAX,
-    // Path.
-    0,
-    1,
-    2,
-    500,
-    998,
-    999,
-    1_000,
-    I64_MAX,
-    // Hour.
-    0,
-    1,
-    77,
-    999_998,
-    999_999,
-    1_000_000,
-    1_000_001,
-    I64_MAX,
-    // Stage.
-    0,
-    1,
-    2,
-    3,
-    4,
-    5,
-    6,
-    I64_MAX,
-    // Bid MWh.
-    0,
-    1,
-    9_999,
-    10_000,
-    10_001,
-    640_000,
-    640_001,
-    I64_MAX,
-    // Differential.
-    0,
-    1,
-    2,
-    999_999,
-    1_000_000,
-    1_000_001,
-    1_000_002,
-    I64_MAX,
-    // Exempt: 1 sets it.
-    0,
-    1,
-    0,
-    1,
-    0,
-    1,
-    0,
-    1,
-    // Schedule.
-    0,
-    1,
-    99,
-    100,
-    101,
-    640_000,
-    640_001,
-    I64_MAX,
-    // Day-Ahead price.
-    0,
-    1,
-    -1,
-    1_000_000,
-    -1_000_000,
-    1_000_001,
-    -1_000_001,
-    I64_MIN,
-    // Requirement.
-    0,
-    -1,
-    20_000_000_000,
-    20_000_000_001,
-    640_000_000_000,
-    640_000_000_001,
-    1_000_000_000_000,
-    1_000_000_000_001,
-    // Requirement again.
-    -1_000_000_000_000,
-    -1_000_000_000_001,
-    1_300_000_000_000,
-    1_300_000_000_001,
-    -1_300_000_000_000,
-    -1_300_000_000_001,
-    I64_MAX,
-    I64_MIN,
-    // The book's support.
-    0,
-    1,
-    1_000_000_000_000_000,
-    -1,
-    1_000_000_000_000_001,
-    2_000_000_000_000_000,
-    I64_MAX,
-    I64_MIN,
-    // A key that stands twice has none.
-    0,
-    0,
-    0,
-    0,
-    0,
-    0,
-    0,
-    0,
+// What a change sets, by the number that the table has. The numbers between `Twice` and `First` are those of the kept totals.
+#[derive(Clone, Copy, PartialEq, Eq)]
+pub(crate) enum Field {
+    Kind,
+    Path,
+    Hour,
+    Stage,
+    Mwh,
+    Differential,
+    Exempt,
+    Schedule,
+    Price,
+    Requirement,
+    LaterRequirement,
+    Support,
+    // A key that stands twice.
+    Twice,
     // The four interval sums.
-    0,
-    1,
-    10_000,
-    10_001,
-    639_999,
-    640_000,
-    640_001,
-    I64_MAX,
-    0,
-    1,
-    10_000,
-    10_001,
-    639_999,
-    640_000,
-    640_001,
-    I64_MAX,
-    0,
-    1,
-    10_000,
-    10_001,
-    639_999,
-    640_000,
-    640_001,
-    I64_MAX,
-    0,
-    1,
-    10_000,
-    10_001,
-    639_999,
-    640_000,
-    640_001,
-    I64_MAX,
-    // Requirement once more.
-    1,
-    2,
-    -2,
-    19_999_999_999,
-    639_999_999_999,
-    999_999_999_999,
-    1_299_999_999_999,
-    -999_999_999_999,
+    First = 29,
+    Second,
+    Third,
+    Fourth,
+    LastRequirement,
+}
+
+impl Field {
+    pub(crate) fn number(self) -> u64 {
+        self as u64
+    }
+}
+
+// The values of an interval's sum.
+const SUMS: [i64; 8] = [0, 1, 10_000, 10_001, 639_999, 640_000, 640_001, i64::MAX];
+
+// What each field is set to.
+const FIELDS: [(Field, [i64; 8]); 18] = [
+    (Field::Kind, [0, 1, 2, 3, 4, 5, 6, i64::MAX]),
+    (Field::Path, [0, 1, 2, 500, 998, 999, 1_000, i64::MAX]),
+    (
+        Field::Hour,
+        [0, 1, 77, 999_998, 999_999, 1_000_000, 1_000_001, i64::MAX],
+    ),
+    (Field::Stage, [0, 1, 2, 3, 4, 5, 6, i64::MAX]),
+    (
+        Field::Mwh,
+        [0, 1, 9_999, 10_000, 10_001, 640_000, 640_001, i64::MAX],
+    ),
+    (
+        Field::Differential,
+        [0, 1, 2, 999_999, 1_000_000, 1_000_001, 1_000_002, i64::MAX],
+    ),
+    // 1 sets the mark.
+    (Field::Exempt, [0, 1, 0, 1, 0, 1, 0, 1]),
+    (
+        Field::Schedule,
+        [0, 1, 99, 100, 101, 640_000, 640_001, i64::MAX],
+    ),
+    (
+        Field::Price,
+        [
+            0,
+            1,
+            -1,
+            1_000_000,
+            -1_000_000,
+            1_000_001,
+            -1_000_001,
+            i64::MIN,
+        ],
+    ),
+    (
+        Field::Requirement,
+        [
+            0,
+            -1,
+            20_000_000_000,
+            20_000_000_001,
+            640_000_000_000,
+            640_000_000_001,
+            1_000_000_000_000,
+            1_000_000_000_001,
+        ],
+    ),
+    (
+        Field::LaterRequirement,
+        [
+            -1_000_000_000_000,
+            -1_000_000_000_001,
+            1_300_000_000_000,
+            1_300_000_000_001,
+            -1_300_000_000_000,
+            -1_300_000_000_001,
+            i64::MAX,
+            i64::MIN,
+        ],
+    ),
+    (
+        Field::Support,
+        [
+            0,
+            1,
+            1_000_000_000_000_000,
+            -1,
+            1_000_000_000_000_001,
+            2_000_000_000_000_000,
+            i64::MAX,
+            i64::MIN,
+        ],
+    ),
+    // No value is set.
+    (Field::Twice, [0; 8]),
+    (Field::First, SUMS),
+    (Field::Second, SUMS),
+    (Field::Third, SUMS),
+    (Field::Fourth, SUMS),
+    (
+        Field::LastRequirement,
+        [
+            1,
+            2,
+            -2,
+            19_999_999_999,
+            639_999_999_999,
+            999_999_999_999,
+            1_299_999_999_999,
+            -999_999_999_999,
+        ],
+    ),
 ];
 
-// The field by its row: those of the kept totals stand between.
-pub(crate) fn field(change: u64) -> u64 {
-    let at = change / 240 % 18;
-    pick(at <= TWICE, at, at + INTERVALS - TOTALS)
+// A field set to a value, in a record of a stage and a kind; 0 is the stage of a free place, and 5 is none.
+#[derive(Clone, Copy)]
+pub(crate) struct Change {
+    pub(crate) field: Field,
+    pub(crate) value: i64,
+    stage: u64,
+    kind: u64,
 }
 
-pub(crate) fn value(change: u64) -> i64 {
-    VALUES[(change / 30 % 144) as usize]
-}
+impl Change {
+    // All of them come by turns: 18 fields; for each, 8 values, 6 stages and 5 kinds.
+    pub(crate) fn of(nth: u64) -> Change {
+        let (field, values) = FIELDS[(nth / 240 % 18) as usize];
+        Change {
+            field,
+            value: values[(nth / 30 % 8) as usize],
+            stage: nth / 5 % 6,
+            kind: nth % 5 + 1,
+        }
+    }
 
-fn base_stage(change: u64) -> u64 {
-    change / 5 % 6
-}
+    // A requirement of kind 5 at stage 1.
+    pub(crate) fn gives_pending_a_requirement(&self) -> bool {
+        matches!(
+            self.field,
+            Field::Requirement | Field::LaterRequirement | Field::LastRequirement
+        ) && self.kind == Kind::QUARTER_HOUR_EXPORT
+            && self.stage == Stage::BID
+    }
 
-fn base_kind(change: u64) -> u64 {
-    change % 5 + 1
-}
-
-// A requirement of kind 5 at stage 1.
-pub(crate) fn gives_pending_a_requirement(change: u64) -> bool {
-    let field = field(change);
-    ((field == 9) | (field == 10) | (field == REQUIREMENT))
-        & (base_kind(change) == Kind::QUARTER_HOUR_EXPORT)
-        & (base_stage(change) == Stage::BID)
-}
-
-// A sound record of each kind at each stage but 2 for kind 3; at stage 0 a free place, and at 5 one that is none.
-fn base(change: u64) -> Record {
-    let mut r = Record::blank();
-    let stage = base_stage(change);
-    if 0 < stage {
-        let kind = base_kind(change);
-        let four = kind == Kind::QUARTER_HOUR_EXPORT;
-        r.key.kind = kind;
+    // A sound record of each kind at each stage but 2 for kind 3; at stage 0 a free place, and at 5 one that is none.
+    fn base(&self) -> Record {
+        let mut r = Record::blank();
+        if self.stage == Stage::FREE {
+            return r;
+        }
+        r.key.kind = self.kind;
         r.key.path = 900;
         r.key.hour = 77;
-        r.stage = stage;
-        let first = pick(four, 100, 0);
-        let third = pick(four, 1, 0);
-        let fourth = pick(four, 640_000, 0);
-        r.mwh = pick(four, 0, 100);
-        r.intervals.first = first;
-        r.intervals.third = third;
-        r.intervals.fourth = fourth;
+        r.stage = self.stage;
+        if self.kind == Kind::QUARTER_HOUR_EXPORT {
+            r.intervals.first = 100;
+            r.intervals.third = 1;
+            r.intervals.fourth = 640_000;
+        } else {
+            r.mwh = 100;
+        }
+        r
     }
-    r
-}
 
-pub(crate) fn record(change: u64) -> Record {
-    let cents = value(change);
-    let v = amounts::magnitude(cents);
-    let mut r = base(change);
-    match change / 240 % 18 {
-        0 => r.key.kind = v,
-        1 => r.key.path = v,
-        2 => r.key.hour = v,
-        3 => r.stage = v,
-        4 => r.mwh = v,
-        5 => r.differential = v,
-        6 => r.exempt = v == 1,
-        7 => r.schedule = v,
-        8 => r.price = cents,
-        9 | 10 | 17 => r.requirement = cents,
-        13 => r.intervals.first = v,
-        14 => r.intervals.second = v,
-        15 => r.intervals.third = v,
-        16 => r.intervals.fourth = v,
-        _ => (),
+    pub(crate) fn record(&self) -> Record {
+        let cents = self.value;
+        let v = cents.unsigned_abs();
+        let mut r = self.base();
+        match self.field {
+            Field::Kind => r.key.kind = v,
+            Field::Path => r.key.path = v,
+            Field::Hour => r.key.hour = v,
+            Field::Stage => r.stage = v,
+            Field::Mwh => r.mwh = v,
+            Field::Differential => r.differential = v,
+            Field::Exempt => r.exempt = v == 1,
+            Field::Schedule => r.schedule = v,
+            Field::Price => r.price = cents,
+            Field::Requirement | Field::LaterRequirement | Field::LastRequirement => {
+                r.requirement = cents
+            }
+            Field::First => r.intervals.first = v,
+            Field::Second => r.intervals.second = v,
+            Field::Third => r.intervals.third = v,
+            Field::Fourth => r.intervals.fourth = v,
+            Field::Support | Field::Twice => (),
+        }
+        r
     }
-    r
 }
 
 // A requirement as the kept totals count it; one of the machine's ends, with which a sum may not fit, is left out.
-fn counted(r: Record) -> i64 {
-    let cents = r.requirement;
-    either(amounts::magnitude(cents) <= 2_000_000_000_000, cents, 0)
+fn counted(r: &Record) -> i64 {
+    if r.requirement.unsigned_abs() <= 2_000_000_000_000 {
+        r.requirement
+    } else {
+        0
+    }
 }
 
-fn counted_as_owed(r: Record) -> i64 {
-    either(r.stage == Stage::BILLED, counted(r), 0)
+fn counted_as_owed(r: &Record) -> i64 {
+    if r.stage == Stage::BILLED {
+        counted(r)
+    } else {
+        0
+    }
+}
+
+// The sum, where one part of it is another.
+fn moved(cents: i64, old: i64, new: i64) -> i64 {
+    cents.saturating_sub(old).saturating_add(new)
 }
 
 // The kept totals, where a place that had one record has another.
-pub(crate) fn followed(account: Account, old: Record, new: Record) -> Account {
+pub(crate) fn followed(account: Account, old: &Record, new: &Record) -> Account {
     Account {
         support: account.support,
         held: moved(account.held, counted(old), counted(new)),
@@ -277,38 +242,88 @@ pub(crate) fn followed(account: Account, old: Record, new: Record) -> Account {
     }
 }
 
-fn tampered_held(account: Account, how: u64) -> i64 {
-    let held = account.held;
-    match how {
-        1 | 6 | 7 => one_more(held),
-        2 | 8 => one_less(held),
-        5 => account.owed,
-        9 => 0,
-        10 => I64_MAX,
-        11 => I64_MIN,
-        _ => held,
+// What a kept total becomes.
+#[derive(Clone, Copy)]
+enum Total {
+    Stays,
+    OneMore,
+    OneLess,
+    // Held for net owed, and net owed for held.
+    TheOther,
+    Zero,
+    Largest,
+    Least,
+    HalfTheSupport,
+    OneAboveHalf,
+}
+
+impl Total {
+    fn of(self, own: i64, other: i64, support: i64) -> i64 {
+        match self {
+            Total::Stays => own,
+            Total::OneMore => own.saturating_add(1),
+            Total::OneLess => own.saturating_sub(1),
+            Total::TheOther => other,
+            Total::Zero => 0,
+            Total::Largest => i64::MAX,
+            Total::Least => i64::MIN,
+            Total::HalfTheSupport => support / 2,
+            Total::OneAboveHalf => (support / 2).saturating_add(1),
+        }
     }
 }
 
-fn tampered_owed(account: Account, how: u64) -> i64 {
-    let owed = account.owed;
-    match how {
-        3 | 6 | 8 => one_more(owed),
-        4 | 7 => one_less(owed),
-        5 => account.held,
-        9 => 0,
-        12 => I64_MAX,
-        13 => I64_MIN,
-        14 => values::half(account.support),
-        15 => one_more(values::half(account.support)),
-        _ => owed,
-    }
+// The ways to tamper with the kept totals: what held becomes, and what net owed.
+const TAMPERINGS: [(Total, Total); 16] = [
+    (Total::Stays, Total::Stays),
+    (Total::OneMore, Total::Stays),
+    (Total::OneLess, Total::Stays),
+    (Total::Stays, Total::OneMore),
+    (Total::Stays, Total::OneLess),
+    (Total::TheOther, Total::TheOther),
+    (Total::OneMore, Total::OneMore),
+    (Total::OneMore, Total::OneLess),
+    (Total::OneLess, Total::OneMore),
+    (Total::Zero, Total::Zero),
+    (Total::Largest, Total::Stays),
+    (Total::Least, Total::Stays),
+    (Total::Stays, Total::Largest),
+    (Total::Stays, Total::Least),
+    (Total::Stays, Total::HalfTheSupport),
+    (Total::Stays, Total::OneAboveHalf),
+];
+
+// One of the ways to tamper with the kept totals.
+#[derive(Clone, Copy)]
+pub(crate) struct Tampering {
+    way: usize,
+    ghost is_one: { way < 16 },
 }
 
-pub(crate) fn tampered(account: Account, how: u64) -> Account {
-    Account {
-        support: account.support,
-        held: tampered_held(account, how),
-        owed: tampered_owed(account, how),
+impl Tampering {
+    // They come by turns.
+    pub(crate) fn of(nth: u64) -> Tampering {
+        Tampering {
+            way: (nth % 16) as usize,
+        }
+    }
+
+    // The number that the table has, past those of a record's fields.
+    pub(crate) fn number(self) -> u64 {
+        13 + self.way as u64
+    }
+
+    pub(crate) fn tampered(self, account: Account) -> Account {
+        let Account {
+            support,
+            held,
+            owed,
+        } = account;
+        let (for_held, for_owed) = TAMPERINGS[self.way];
+        Account {
+            support,
+            held: for_held.of(held, owed, support),
+            owed: for_owed.of(owed, held, support),
+        }
     }
 }

@@ -21,18 +21,17 @@ mod trials;
 mod values;
 
 use lines::numbers::whole;
+use run::Plan;
+use std::io;
+use std::io::Read;
 
-// The C library's number of the stream.
-const STDIN: i32 = 0;
-
-fn main() {
-    let mut input = [0u8; 128];
-    let read = io::read_full(STDIN, &mut input);
-    let text = &input[..read];
-    run::run(run::Plan {
-        turns: whole(text, 0),
-        from: whole(text, 1),
-        to: whole(text, 2),
-        seed: generator::seed_of(whole(text, 3)),
-    });
+fn main(rt: HostRuntime) -> io::Result<()> {
+    let mut text = Vec::new(rt.alloc());
+    rt.reader().read_to_end(&mut text)?;
+    let plan = Plan {
+        turns: whole(&text, 0),
+        shown: whole(&text, 1)..whole(&text, 2),
+        seed: generator::seed_of(whole(&text, 3)),
+    };
+    run::run(&rt, &plan)
 }

@@ -1,11 +1,11 @@
-// The lists beside a message: points, of one curve or of four, and the prices of a close. Of each list the first so many are lent, at most 260.
-ghost use Rattle.std.specs.Prelude.{◌≤◌, ◌<◌, ◌≡◌, length};
+// The lists beside a message: points, of one curve or of four, and the prices of a close.
+ghost use Rattle.std.specs.Prelude.{◌≤◌};
 
 use crate::digest::mix;
-use crate::generator::{draw, has};
-use crate::values::U64_MAX;
+use crate::generator::{Choice, draw, has};
 use crate::{generator, values};
-use refusals::pick;
+use std::alloc::{AllocError, Global};
+use std::iter;
 
 // How many points each interval is said to have, and how many MWh and how many prices there are.
 #[derive(Clone, Copy)]
@@ -15,9 +15,49 @@ pub(crate) struct Lengths {
     pub(crate) prices: u64,
 }
 
-// Fault 5 gives a bid the other form: one curve for four, or four for one.
+// What fault 5 does to four curves.
+#[derive(Clone, Copy, PartialEq, Eq)]
+pub(crate) enum CurvesFault {
+    // No points at all.
+    Empty,
+    // One interval with a point too many.
+    TooLong,
+    OnePriceMore,
+    HalfTheMwh,
+    // The first count says one more than there are.
+    OneMore,
+    // The fourth says so many that no list has them.
+    TooMany,
+    // The counts' sum is the lists' length but for 2^64.
+    Wrapping,
+    // One curve, and to one curve: four.
+    OtherForm,
+}
+
+pub(crate) fn curves_fault(seed: u64) -> Option<CurvesFault> {
+    has(seed, 5).then(|| match draw(seed, Choice::Count) % 8 {
+        0 => CurvesFault::Empty,
+        1 => CurvesFault::TooLong,
+        2 => CurvesFault::OnePriceMore,
+        3 => CurvesFault::HalfTheMwh,
+        4 => CurvesFault::OneMore,
+        5 => CurvesFault::TooMany,
+        6 => CurvesFault::Wrapping,
+        _ => CurvesFault::OtherForm,
+    })
+}
+
 pub(crate) fn has_other_form(seed: u64) -> bool {
-    has(seed, 5) & (draw(seed, generator::COUNT) % 8 == 7)
+    matches!(curves_fault(seed), Some(CurvesFault::OtherForm))
+}
+
+fn counts_of(first: u64, second: u64, third: u64, fourth: u64) -> book::Counts {
+    book::Counts {
+        first,
+        second,
+        third,
+        fourth,
+    }
 }
 
 // ---- one curve
@@ -32,46 +72,23 @@ fn usual(w: u64) -> u64
     }
 }
 
-fn no_counts() -> book::Counts {
-    book::Counts {
-        first: 0,
-        second: 0,
-        third: 0,
-        fourth: 0,
-    }
-}
-
 pub(crate) fn one_curve(seed: u64) -> Lengths {
-    let w = draw(seed, generator::COUNT);
+    let w = draw(seed, Choice::Count);
     let n = usual(w);
-    let faulty = has(seed, 5) & !has_other_form(seed);
-    let counts = no_counts();
-    match pick(faulty, w % 4, 4) {
-        0 => Lengths {
-            counts,
-            numbers: 0,
-            prices: 0,
-        },
-        1 => Lengths {
-            counts,
-            numbers: 65,
-            prices: 65,
-        },
-        2 => Lengths {
-            counts,
-            numbers: n,
-            prices: n + 1,
-        },
-        3 => Lengths {
-            counts,
-            numbers: n,
-            prices: n / 2,
-        },
-        _ => Lengths {
-            counts,
-            numbers: n,
-            prices: n,
-        },
+    let (numbers, prices) = if has(seed, 5) && !has_other_form(seed) {
+        match w % 4 {
+            0 => (0, 0),
+            1 => (65, 65),
+            2 => (n, n + 1),
+            _ => (n, n / 2),
+        }
+    } else {
+        (n, n)
+    };
+    Lengths {
+        counts: counts_of(0, 0, 0, 0),
+        numbers,
+        prices,
     }
 }
 
@@ -80,42 +97,27 @@ pub(crate) fn one_curve(seed: u64) -> Lengths {
 fn usual_four(w: u64) -> book::Counts {
     let v = w / 16;
     match w % 16 {
-        0 => book::Counts {
-            first: 64,
-            second: 64,
-            third: 64,
-            fourth: 64,
-        },
-        1 => book::Counts {
-            first: 63,
-            second: 0,
-            third: 64,
-            fourth: 1,
-        },
-        _ => book::Counts {
-            first: v % 4,
-            second: v / 4 % 4,
-            third: v / 16 % 4,
-            fourth: v / 64 % 4,
-        },
+        0 => counts_of(64, 64, 64, 64),
+        1 => counts_of(63, 0, 64, 1),
+        _ => counts_of(v % 4, v / 4 % 4, v / 16 % 4, v / 64 % 4),
     }
 }
 
-// One interval with a point too many.
-fn too_long(counts: book::Counts, which: u64) -> book::Counts {
-    book::Counts {
-        first: pick(which == 0, 65, counts.first),
-        second: pick(which == 1, 65, counts.second),
-        third: pick(which == 2, 65, counts.third),
-        fourth: pick(which == 3, 65, counts.fourth),
+fn too_long(mut counts: book::Counts, which: u64) -> book::Counts {
+    match which {
+        0 => counts.first = 65,
+        1 => counts.second = 65,
+        2 => counts.third = 65,
+        _ => counts.fourth = 65,
     }
+    counts
 }
 
 // The points that there are.
-fn four_counted(w: u64, way: u64) -> book::Counts {
-    match way {
-        0 => no_counts(),
-        1 => too_long(usual_four(w), w / 16 % 4),
+fn four_counted(w: u64, fault: Option<CurvesFault>) -> book::Counts {
+    match fault {
+        Some(CurvesFault::Empty) => counts_of(0, 0, 0, 0),
+        Some(CurvesFault::TooLong) => too_long(usual_four(w), w / 16 % 4),
         _ => usual_four(w),
     }
 }
@@ -126,46 +128,31 @@ fn total(counts: book::Counts) -> u64
     counts.first % 66 + counts.second % 66 + counts.third % 66 + counts.fourth % 66
 }
 
-// What is said of them: one more, or so many that no list has them, or that their sum is the lists' length but for 2^64.
-fn four_stated(counts: book::Counts, way: u64) -> book::Counts {
-    let first = counts.first % 66;
-    match way {
-        4 => book::Counts {
-            first: first + 1,
-            second: counts.second,
-            third: counts.third,
-            fourth: counts.fourth,
-        },
-        5 => book::Counts {
-            first,
-            second: counts.second,
-            third: counts.third,
-            fourth: U64_MAX,
-        },
-        6 => book::Counts {
-            first: U64_MAX,
-            second: total(counts) + 1,
-            third: 0,
-            fourth: 0,
-        },
-        _ => counts,
+// What is said of them.
+fn four_stated(counts: book::Counts, fault: Option<CurvesFault>) -> book::Counts {
+    let mut stated = counts;
+    match fault {
+        Some(CurvesFault::OneMore) => stated.first = counts.first % 66 + 1,
+        Some(CurvesFault::TooMany) => stated.fourth = u64::MAX,
+        Some(CurvesFault::Wrapping) => stated = counts_of(u64::MAX, total(counts) + 1, 0, 0),
+        _ => (),
     }
-}
-
-// The way of fault 5, and 7, the form, where the counts have none.
-fn four_way(seed: u64) -> u64 {
-    pick(has(seed, 5), draw(seed, generator::COUNT) % 8, 7)
+    stated
 }
 
 pub(crate) fn four_curves(seed: u64) -> Lengths {
-    let way = four_way(seed);
-    let there = four_counted(draw(seed, generator::COUNT), way);
+    let fault = curves_fault(seed);
+    let there = four_counted(draw(seed, Choice::Count), fault);
     let n = total(there);
-    let counts = four_stated(there, way);
+    let (numbers, prices) = match fault {
+        Some(CurvesFault::OnePriceMore) => (n, n + 1),
+        Some(CurvesFault::HalfTheMwh) => (n / 2, n),
+        _ => (n, n),
+    };
     Lengths {
-        counts,
-        numbers: pick(way == 3, n / 2, n),
-        prices: pick(way == 2, n + 1, n),
+        counts: four_stated(there, fault),
+        numbers,
+        prices,
     }
 }
 
@@ -173,49 +160,54 @@ pub(crate) fn four_curves(seed: u64) -> Lengths {
 
 // Whether a fault in a list stands at its first place, and not at its last.
 pub(crate) fn faulty_first(seed: u64) -> bool {
-    draw(seed, generator::COUNT) / 256 % 2 == 0
+    draw(seed, Choice::Count) / 256 % 2 == 0
 }
 
-// Where a fault stands in a list of n: at its first place or its last, or else at the place that is never lent.
-fn faulty_place(seed: u64, n: usize, fault: u64) -> usize
-    ensures { result < 261 }
-{
-    let place = pick(has(seed, fault), pick(faulty_first(seed), 1, n as u64), 0);
-    ((place % 261 + 260) % 261) as usize
-}
-
-// The quantities, of which the first n are lent. Fault 6 puts one out of range among them.
-pub(crate) fn mwh_points(seed: u64, n: usize) -> [u64; 261]
-    requires { n ≤ 260 }
-    ensures { length result ≡ 261 }
-{
-    let mut list = [0u64; 261];
-    let mut x = draw(seed, generator::POINTS);
-    let mut i: usize = 0;
-    while i < n {
-        x = generator::next(x);
-        list[i] = values::mwh(x);
-        i += 1;
+// The place of a list at which a fault stands; an empty one has none.
+pub(crate) fn faulty_place<T>(seed: u64, list: &mut [T]) -> Option<&mut T> {
+    if faulty_first(seed) {
+        list.first_mut()
+    } else {
+        list.last_mut()
     }
-    let fault = faulty_place(seed, n, 6);
-    list[fault] = values::one_of(values::POINT_MWH_OUT, draw(seed, generator::COUNT) / 512);
-    list
 }
 
-// The prices, of which the first n are lent. Fault 7 puts one out of range among them.
-pub(crate) fn price_points(seed: u64, n: usize) -> [i64; 261]
-    requires { n ≤ 260 }
-    ensures { length result ≡ 261 }
+// So many values, each of the next number from a first one on.
+fn drawn<T: Drop, F: Fn(u64) -> T>(
+    alloc: Global,
+    first: u64,
+    count: u64,
+    value: F,
+) -> Result<Vec<T>, AllocError>
+    requires { (f : _) (a : _) → F.FnMut.pre f a }
 {
-    let mut list = [0i64; 261];
-    let mut x = mix(draw(seed, generator::POINTS), 7);
-    let mut i: usize = 0;
-    while i < n {
-        x = generator::next(x);
-        list[i] = values::price_or(values::PRICES, x);
-        i += 1;
+    iter::successors(Some(generator::next(first)), |x| Some(generator::next(*x)))
+        .take(count as usize)
+        .map(value)
+        .collect(alloc)
+}
+
+// A fault puts one out of range among them.
+fn put_out<T: Copy>(seed: u64, list: &mut [T], fault: u64, out: &[T; 8]) {
+    if has(seed, fault) {
+        if let Some(place) = faulty_place(seed, list) {
+            *place = values::one_of(out, draw(seed, Choice::Count) / 512);
+        }
     }
-    let fault = faulty_place(seed, n, 7);
-    list[fault] = values::one_of_cents(values::PRICES_OUT, draw(seed, generator::COUNT) / 512);
-    list
+}
+
+// The quantities.
+pub(crate) fn mwh_points(alloc: Global, seed: u64, count: u64) -> Result<Vec<u64>, AllocError> {
+    let mut list = drawn(alloc, draw(seed, Choice::Points), count, values::mwh)?;
+    put_out(seed, &mut list, 6, &values::POINT_MWH_OUT);
+    Ok(list)
+}
+
+pub(crate) fn price_points(alloc: Global, seed: u64, count: u64) -> Result<Vec<i64>, AllocError> {
+    let first = mix(draw(seed, Choice::Points), 7);
+    let mut list = drawn(alloc, first, count, |x| {
+        values::price_or(&values::PRICES, x)
+    })?;
+    put_out(seed, &mut list, 7, &values::PRICES_OUT);
+    Ok(list)
 }

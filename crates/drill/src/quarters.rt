@@ -1,156 +1,161 @@
 // The rows of 02, order 3: batches that were kept or removed, why a close was refused, four curves, and kind 5 at each stage.
-use crate::ask::Ask;
-use crate::closes::{ADDS_ONE, ADDS_ONE_TOO, LEAVES_OUT, LISTS_NONE, NAMES_ANOTHER_HOUR};
-use crate::generator::{draw, has};
-use crate::rows::{CLOSES, Counts, QUARTERS};
-use crate::{ask, closes, generator, points, rows};
-use book::{Answer, Kind, Record};
-use refusals::pick;
+use crate::ask::Case;
+use crate::closes::{ListsFault, Way};
+use crate::points::CurvesFault;
+use crate::rows::{Counts, Row};
+use crate::tally::Turn;
+use crate::{closes, points};
+use book::Kind;
 
-// What is known of a turn beside its message: the record drawn, and whether the message is to name it; how the book stood before.
-#[derive(Clone, Copy)]
-pub(crate) struct Facts {
-    pub(crate) seed: u64,
-    pub(crate) record: Record,
-    pub(crate) named: bool,
-    pub(crate) full: bool,
-    pub(crate) short: bool,
-    pub(crate) suspended: bool,
-    pub(crate) support: i64,
-    // The support was set for this message, a cent below what it needs.
-    pub(crate) one_short: bool,
-    // Of a close that was accepted: its batch adds nothing.
-    pub(crate) adds_none: bool,
-}
-
-fn note(counts: &mut Counts, applies: bool, row: u64) {
-    rows::count(counts, pick(applies, row, 0));
-}
-
-// ---- closes
-
-// Of two rows side by side that of a batch kept, or that of one removed.
-fn of_batch(removed: bool, row: u64) -> u64 {
-    pick(removed, row % 1_024 + 1, row)
-}
-
-fn note_batch(counts: &mut Counts, ask: Ask, answer: Answer, facts: Facts) {
-    let removed = answer.removed();
-    let several = 2 <= ask.listing.count;
-    let at_support = !removed & (answer.held() == facts.support);
-    let by_a_cent = removed & facts.one_short;
-    let mixed = several & closes::in_another_order(facts.seed);
-    note(counts, true, of_batch(removed, CLOSES));
-    note(
-        counts,
-        at_support | by_a_cent,
-        of_batch(removed, CLOSES + 2),
-    );
-    note(counts, facts.adds_none, of_batch(removed, CLOSES + 4));
-    note(counts, several, of_batch(removed, CLOSES + 6));
-    note(counts, facts.suspended, of_batch(removed, CLOSES + 8));
-    note(counts, mixed, CLOSES + 10);
-    note(counts, facts.full, CLOSES + 11);
-}
-
-// The paths were not those pending.
-fn row_of_11(ask: Ask, facts: Facts) -> u64 {
-    let r = facts.record;
-    let none = ask.pending == 0;
-    let closed = (r.key.kind == Kind::QUARTER_HOUR_EXPORT)
-        & (r.key.hour == ask.key.hour)
-        & (2 <= r.stage);
-    match closes::way(facts.seed) {
-        LEAVES_OUT => pick(none, CLOSES + 12, CLOSES + 14),
-        ADDS_ONE | ADDS_ONE_TOO => pick(closed, CLOSES + 15, CLOSES + 16),
-        NAMES_ANOTHER_HOUR => pick(none, 0, CLOSES + 17),
-        LISTS_NONE => pick(none, CLOSES + 12, CLOSES + 13),
-        _ => pick(none, CLOSES + 12, 0),
+impl Turn {
+    fn is_quarters(&self) -> bool {
+        self.ask.key.kind == Kind::QUARTER_HOUR_EXPORT
     }
-}
 
-// A path twice, or prices that are not four a path.
-fn row_of_5(seed: u64) -> u64 {
-    match closes::five(seed) {
-        1 => CLOSES + 19,
-        2 => CLOSES + 20,
-        3 => CLOSES + 21,
-        _ => CLOSES + 18,
+    // ---- closes
+
+    fn lists_several(&self) -> bool {
+        2 <= self.ask.lengths.numbers
     }
-}
 
-fn row_of_refused_close(number: u64, ask: Ask, facts: Facts) -> u64 {
-    let first = points::faulty_first(facts.seed);
-    let several = 2 <= ask.listing.count;
-    match number {
-        3 => pick(first, CLOSES + 22, pick(several, CLOSES + 23, 0)),
-        5 => row_of_5(facts.seed),
-        7 => pick(first, CLOSES + 24, CLOSES + 25),
-        11 => row_of_11(ask, facts),
-        _ => 0,
+    fn note_batch(&self, counts: &mut Counts) {
+        let removed = self.answer.removed();
+        let of_batch = |kept: Row, gone: Row| if removed { gone } else { kept };
+        let at_edge = if removed {
+            self.one_short
+        } else {
+            self.answer.held() == self.account.support
+        };
+        let several = self.lists_several();
+        counts.count(of_batch(Row::BatchKept, Row::BatchRemoved));
+        counts.count_if(at_edge, of_batch(Row::KeptAtSupport, Row::RemovedByOneCent));
+        counts.count_if(
+            self.adds_none,
+            of_batch(Row::NothingAddedKept, Row::NothingAddedRemoved),
+        );
+        counts.count_if(several, of_batch(Row::SeveralKept, Row::SeveralRemoved));
+        counts.count_if(
+            self.account.suspended(),
+            of_batch(Row::SuspendedKept, Row::SuspendedRemoved),
+        );
+        counts.count_if(
+            several && closes::in_another_order(self.seed),
+            Row::InAnotherOrder,
+        );
+        counts.count_if(self.full, Row::ClosedOnAFullBook);
     }
-}
 
-fn note_close(counts: &mut Counts, ask: Ask, answer: Answer, facts: Facts) {
-    let number = answer.number();
-    if number == 0 {
-        note_batch(counts, ask, answer, facts);
-    } else {
-        rows::count(counts, row_of_refused_close(number, ask, facts));
+    // Whether the record drawn is one of the hour that is closed already.
+    fn is_closed(&self) -> bool {
+        self.record.key.kind == Kind::QUARTER_HOUR_EXPORT
+            && self.record.key.hour == self.ask.key.hour
+            && 2 <= self.record.stage
     }
-}
 
-// ---- four curves
-
-fn note_curves(counts: &mut Counts, ask: Ask, facts: Facts) {
-    let opens = ask.message == Ask::OPEN_CURVES;
-    let c = ask.lengths.counts;
-    let empty = (c.first == 0) | (c.second == 0) | (c.third == 0) | (c.fourth == 0);
-    let long = (c.first == 64) & (c.second == 64) & (c.third == 64) & (c.fourth == 64);
-    note(counts, facts.short & opens, QUARTERS);
-    note(counts, facts.short & !opens, QUARTERS + 1);
-    note(counts, empty, QUARTERS + 2);
-    note(counts, long, QUARTERS + 3);
-}
-
-// Refused 5: by the way of that fault; 7 is the form, and without a fault all four are empty.
-fn row_of_refused_curves(ask: Ask, seed: u64) -> u64 {
-    let way = pick(has(seed, 5), draw(seed, generator::COUNT) % 8, 0);
-    if ask::has_curves(ask.message) {
-        return pick(way == 7, QUARTERS + 12, QUARTERS + 4 + way % 8);
+    // The paths were not those pending.
+    fn row_of_11(&self) -> Option<Row> {
+        let none = self.ask.pending == 0;
+        match Way::of(self.seed) {
+            Way::AddsOne if self.is_closed() => Some(Row::OneMoreClosedAlready),
+            Way::AddsOne => Some(Row::OneMoreNotPending),
+            Way::NamesAnotherHour if none => None,
+            Way::NamesAnotherHour => Some(Row::PathsOfAnotherHour),
+            _ if none => Some(Row::NonePending),
+            Way::LeavesOut => Some(Row::OneLeftOut),
+            Way::ListsNone => Some(Row::NoneListed),
+            Way::AsPending => None,
+        }
     }
-    pick(ask.key.kind == Kind::QUARTER_HOUR_EXPORT, QUARTERS + 11, 0)
-}
 
-fn note_bid(counts: &mut Counts, ask: Ask, number: u64, facts: Facts) {
-    if (number == 0) & ask::has_curves(ask.message) {
-        note_curves(counts, ask, facts);
+    // A path twice, or prices that are not four a path.
+    fn row_of_5(&self) -> Row {
+        match closes::lists_fault(self.seed) {
+            Some(ListsFault::OnePriceShort) => Row::OnePriceShort,
+            Some(ListsFault::OnePriceTooMany) => Row::OnePriceTooMany,
+            Some(ListsFault::OnePriceAPath) => Row::OnePriceAPath,
+            Some(ListsFault::PathTwice) | None => Row::PathTwice,
+        }
     }
-    if number == 5 {
-        rows::count(counts, row_of_refused_curves(ask, facts.seed));
+
+    fn row_of_refused_close(&self) -> Option<Row> {
+        let first = points::faulty_first(self.seed);
+        match self.answer.number() {
+            3 if first => Some(Row::FirstPathOut),
+            3 if self.lists_several() => Some(Row::LastPathOut),
+            5 => Some(self.row_of_5()),
+            7 if first => Some(Row::FirstPriceOut),
+            7 => Some(Row::LastPriceOut),
+            11 => self.row_of_11(),
+            _ => None,
+        }
     }
-}
 
-// ---- all of them
-
-// A message that names a record of kind 5, by its stage.
-fn row_of_stage(ask: Ask, number: u64, facts: Facts) -> u64 {
-    let r = facts.record;
-    let message = ask.message;
-    let names_one = !ask::opens(message) & !(message == Ask::SUPPORT) & !(message == Ask::CLOSE);
-    pick(
-        names_one & facts.named & (r.key.kind == Kind::QUARTER_HOUR_EXPORT),
-        rows::of_stage(r.stage, number),
-        0,
-    )
-}
-
-pub(crate) fn noted(counts: &mut Counts, ask: Ask, answer: Answer, facts: Facts) {
-    let number = answer.number();
-    if ask.message == Ask::CLOSE {
-        note_close(counts, ask, answer, facts);
-    } else {
-        note_bid(counts, ask, number, facts);
+    fn note_close(&self, counts: &mut Counts) {
+        if self.answer.number() == 0 {
+            self.note_batch(counts);
+        } else {
+            counts.count_any(self.row_of_refused_close());
+        }
     }
-    rows::count(counts, row_of_stage(ask, number, facts));
+
+    // ---- four curves
+
+    fn note_curves(&self, counts: &mut Counts) {
+        let lengths = self.ask.lengths.counts;
+        let each = [lengths.first, lengths.second, lengths.third, lengths.fourth];
+        let above = match self.ask.case {
+            Case::OpenCurves => Row::OpenAboveSupport,
+            _ => Row::ReviseAboveSupport,
+        };
+        counts.count_if(self.short, above);
+        counts.count_if(each.contains(&0), Row::AnIntervalEmpty);
+        counts.count_if(each == [64; 4], Row::AllIntervalsLong);
+    }
+
+    // Refused 5: by the way of that fault; without a fault all four are empty.
+    fn row_of_refused_points(&self) -> Option<Row> {
+        if !self.ask.case.has_curves() {
+            return self.is_quarters().then_some(Row::OneCurveForFour);
+        }
+        Some(match points::curves_fault(self.seed) {
+            None | Some(CurvesFault::Empty) => Row::CurvesEmpty,
+            Some(CurvesFault::TooLong) => Row::CurvesTooLong,
+            Some(CurvesFault::OnePriceMore) => Row::CurvesOnePriceMore,
+            Some(CurvesFault::HalfTheMwh) => Row::CurvesHalfTheMwh,
+            Some(CurvesFault::OneMore) => Row::CurvesOneMore,
+            Some(CurvesFault::TooMany) => Row::CurvesTooMany,
+            Some(CurvesFault::Wrapping) => Row::CurvesWrapping,
+            Some(CurvesFault::OtherForm) => Row::FourCurvesForOne,
+        })
+    }
+
+    fn note_bid(&self, counts: &mut Counts) {
+        match self.answer.number() {
+            0 if self.ask.case.has_curves() => self.note_curves(counts),
+            5 => counts.count_any(self.row_of_refused_points()),
+            _ => (),
+        }
+    }
+
+    // ---- all of them
+
+    // Whether the message names a record of kind 5.
+    fn names_quarters(&self) -> bool {
+        let case = self.ask.case;
+        case.has_key()
+            && !case.opens()
+            && self.named()
+            && self.record.key.kind == Kind::QUARTER_HOUR_EXPORT
+    }
+
+    pub(crate) fn note_quarters(&self, counts: &mut Counts) {
+        if self.ask.case == Case::Close {
+            self.note_close(counts);
+        } else {
+            self.note_bid(counts);
+        }
+        if self.names_quarters() {
+            counts.count_stage(self.record.stage, self.answer.number());
+        }
+    }
 }

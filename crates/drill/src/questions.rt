@@ -1,12 +1,11 @@
 // The import test and the lookup, each asked once a turn, beside its message.
 use crate::digest::mix;
-use crate::generator::draw;
-use crate::rows::{Counts, EDITIONS, LOOKS, TESTS, count};
+use crate::generator::{Choice, draw};
+use crate::rows::{Counts, Row};
+use crate::values;
 use crate::values::one_of;
-use crate::{generator, values};
 use chart::{Answer, Edition, Table};
 use history::{History, Window};
-use refusals::pick;
 
 // A number over three months, and over six.
 #[derive(Clone, Copy)]
@@ -16,7 +15,7 @@ struct Pair {
 }
 
 impl Pair {
-    fn of(row: [u64; 8], w: u64) -> Pair {
+    fn of(row: &[u64; 8], w: u64) -> Pair {
         let three = one_of(row, w) % 2_000_000_000;
         let six = match w / 8 % 8 {
             0 => three / 2,
@@ -30,9 +29,9 @@ impl Pair {
 }
 
 fn history(seed: u64) -> History {
-    let bids = Pair::of(values::TEST_BIDS, draw(seed, generator::BIDS));
-    let mwh = Pair::of(values::TEST_MWH, draw(seed, generator::MWH));
-    let loss = Pair::of(values::TEST_LOSS, draw(seed, generator::LOSS));
+    let bids = Pair::of(&values::TEST_BIDS, draw(seed, Choice::Bids));
+    let mwh = Pair::of(&values::TEST_MWH, draw(seed, Choice::Mwh));
+    let loss = Pair::of(&values::TEST_LOSS, draw(seed, Choice::Loss));
     History {
         three: Window {
             bids: bids.three,
@@ -65,9 +64,9 @@ struct Look {
 }
 
 fn looked(seed: u64) -> Look {
-    let w = draw(seed, generator::LOOK);
-    let drawn = draw(seed, generator::DAY);
-    let edition = one_of(values::EDITIONS, drawn / 75);
+    let w = draw(seed, Choice::Look);
+    let drawn = draw(seed, Choice::Day);
+    let edition = one_of(&values::EDITIONS, drawn / 75);
     let bus = w / 2 % 12;
     let month = w / 24 % 14;
     let day = drawn % 3;
@@ -76,22 +75,47 @@ fn looked(seed: u64) -> Look {
     Look {
         newer: edition == Edition::OF_33_GROUPS,
         import: w % 2 == 0,
-        inside: (0 < bus) & (bus < 11) & (0 < month) & (month < 13) & (day < 2) & (hour < 24),
+        inside: (1..11).contains(&bus) && (1..13).contains(&month) && day < 2 && hour < 24,
         answer,
     }
 }
 
 impl Look {
-    fn answered_row(self) -> u64 {
-        let older = pick(self.import, EDITIONS, EDITIONS + 1);
-        pick(self.newer, EDITIONS + 2, older)
+    fn answered_row(&self) -> Row {
+        if self.newer {
+            Row::Newer
+        } else if self.import {
+            Row::OlderImport
+        } else {
+            Row::OlderExport
+        }
     }
 
-    // 0 where it is none: of an older edition that is out of range, and of no edition that is so too.
-    fn refused_row(self) -> u64 {
-        let alone = pick(self.newer, EDITIONS + 4, EDITIONS + 3);
-        let ranges = pick(self.newer & self.import, EDITIONS + 5, 0);
-        pick(self.inside, alone, ranges)
+    // None of an older edition that is out of range, and of no edition that is so too.
+    fn refused_row(&self) -> Option<Row> {
+        match (self.newer, self.inside) {
+            (true, true) => Some(Row::NewerExport),
+            (false, true) => Some(Row::NoEdition),
+            (true, false) => self.import.then_some(Row::NewerImportOut),
+            (false, false) => None,
+        }
+    }
+
+    fn row(&self) -> Option<Row> {
+        if self.answer.number() == 0 {
+            Some(self.answered_row())
+        } else {
+            self.refused_row()
+        }
+    }
+}
+
+// The row of an import test, by the refusal's number and the mark.
+fn test_row(refused: u64, exempt: u64) -> Row {
+    match (refused, exempt) {
+        (0, 0) => Row::NotExempt,
+        (0, _) => Row::Exempt,
+        _ => Row::TestRefused,
     }
 }
 
@@ -103,15 +127,13 @@ pub(crate) fn answered(seed: u64, digest: u64, counts: &mut Counts) -> u64 {
     let asked = looked(seed);
     let look = asked.answer;
     let number = chart::number(look);
-    count(
-        counts,
-        pick(refused == 0, TESTS + 1 - exempt % 2, TESTS + 2),
-    );
-    count(counts, pick(number == 0, LOOKS, LOOKS + 1));
-    count(
-        counts,
-        pick(number == 0, asked.answered_row(), asked.refused_row()),
-    );
+    counts.count(test_row(refused, exempt));
+    counts.count(if number == 0 {
+        Row::LookAnswered
+    } else {
+        Row::LookRefused
+    });
+    counts.count_any(asked.row());
     let tested = mix(mix(digest, refused), exempt);
     mix(
         mix(mix(tested, number), chart::group(look)),

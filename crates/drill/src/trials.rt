@@ -1,68 +1,77 @@
 // What the drill does with a book beside sending it the turn's message: it tries that with the largest support, and digests all that a book holds and a screen asks.
-ghost use Rattle.std.specs.Prelude.{◌≤◌, ◌≡◌, length};
-
-use crate::ask::Ask;
+use crate::ask::{Ask, Case, Standing};
 use crate::digest::{mix, mix_cents, mix_place};
-use crate::{points, values};
-use book::{Account, Book, Message};
-use refusals::pick;
+use crate::{closes, points, values};
+use book::{Account, Book, Record};
+use std::alloc::{AllocError, Global};
 
-// How many of a list are lent.
-pub(crate) fn lent(count: u64) -> usize
-    ensures { result ≤ 260 }
-{
-    (count % 261) as usize
+// The message that is drawn, with its two lists.
+#[derive(Drop)]
+pub(crate) struct Sent {
+    pub(crate) ask: Ask,
+    pub(crate) numbers: Vec<u64>,
+    pub(crate) prices: Vec<i64>,
 }
 
-// The MWh of its points, or of a close the paths.
-pub(crate) fn numbers(ask: Ask, seed: u64, n: usize) -> [u64; 261]
-    requires { n ≤ 260 }
-    ensures { length result ≡ 261 }
-{
-    if ask.message == Ask::CLOSE {
-        return ask.listing.lent();
+impl Sent {
+    pub(crate) fn drawn(
+        alloc: Global,
+        seed: u64,
+        now: &Standing,
+        book: &Book,
+        r: &Record,
+    ) -> Result<Sent, AllocError> {
+        let mut ask = Ask::of(seed, r, now);
+        let numbers = if ask.case == Case::Close {
+            let pending = closes::pending(alloc, book, ask.key.hour, seed)?;
+            let bids = pending.len();
+            let paths = closes::listed(pending, seed, r)?;
+            ask = ask.closing(seed, bids, paths.len());
+            paths
+        } else {
+            points::mwh_points(alloc, seed, ask.lengths.numbers)?
+        };
+        let prices = points::price_points(alloc, seed, ask.lengths.prices)?;
+        Ok(Sent {
+            ask,
+            numbers,
+            prices,
+        })
     }
-    points::mwh_points(seed, n)
-}
 
-// The held amount that the message would leave with the largest support.
-pub(crate) fn tried(book: Book, message: Message, mwh: &[u64], prices: &[i64]) -> i64 {
-    let mut aside = book;
-    let account = book.account.supported(values::MOST_SUPPORT);
-    aside.account = account;
-    let answer = aside.apply(message, mwh, prices).answer;
-    answer.held()
+    // The held amount that the message would leave with the largest support.
+    pub(crate) fn tried(&self, book: &Book) -> i64 {
+        let mut aside = *book;
+        aside.account = book.account.supported(values::MOST_SUPPORT);
+        let outcome = aside.apply(self.ask.message(), &self.numbers, &self.prices);
+        outcome.answer.held()
+    }
 }
 
 // What a book keeps beside its records.
 pub(crate) fn account_mixed(account: Account, digest: u64) -> u64 {
-    mix_cents(
-        mix_cents(mix_cents(digest, account.support), account.held),
-        account.owed,
-    )
+    [account.support, account.held, account.owed]
+        .iter()
+        .fold(digest, |digest, cents| mix_cents(digest, *cents))
 }
 
 // All that a book holds: what it keeps, and each place that is not free.
-pub(crate) fn all_mixed(book: Book, digest: u64) -> u64 {
-    let account = book.account;
-    let mut next = account_mixed(account, digest);
-    let mut i: usize = 0;
-    while i < 256 {
-        let r = book.records[i];
-        i += 1;
-        next = mix_place(next, i as u64, r);
+pub(crate) fn all_mixed(book: &Book, digest: u64) -> u64 {
+    let mut next = account_mixed(book.account, digest);
+    for (i, r) in book.records.iter().enumerate() {
+        next = mix_place(next, i as u64 + 1, r);
     }
     next
 }
 
 // What a screen asks of a book.
-pub(crate) fn screened(book: Book, digest: u64) -> u64 {
+pub(crate) fn screened(book: &Book, digest: u64) -> u64 {
     let sums = mix_cents(mix_cents(digest, book.held()), book.net_owed());
-    mix(sums, pick(book.suspended(), 1, 0))
+    mix(sums, u64::from(book.suspended()))
 }
 
 // All that a book holds, and what a screen asks of it.
-pub(crate) fn shown(book: Book, digest: u64) -> u64 {
+pub(crate) fn shown(book: &Book, digest: u64) -> u64 {
     let seen = screened(book, all_mixed(book, digest));
-    mix(seen, pick(book.is_sound(), 1, 0))
+    mix(seen, u64::from(book.is_sound()))
 }

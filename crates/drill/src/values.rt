@@ -1,15 +1,6 @@
 // The values that are drawn: each limit, and what is one past it. A row has eight, and a draw takes one of them.
-ghost use Rattle.std.specs.Prelude.{◌≤◌};
-
-use refusals::pick;
 
 pub(crate) const MOST_SUPPORT: i64 = 1_000_000_000_000_000;
-
-pub(crate) const I64_MAX: i64 = 9_223_372_036_854_775_807;
-
-pub(crate) const I64_MIN: i64 = -9_223_372_036_854_775_808;
-
-pub(crate) const U64_MAX: u64 = 18_446_744_073_709_551_615;
 
 // Whole numbers in range.
 pub(crate) const PATHS: [u64; 8] = [1, 2, 3, 4, 500, 997, 998, 999];
@@ -19,24 +10,52 @@ pub(crate) const DIFFERENTIALS: [u64; 8] = [0, 1, 1_200, 1_400, 4_000, 6_000, 99
 const POINT_MWH: [u64; 8] = [0, 1, 27, 61, 100, 500, 9_999, 10_000];
 
 // Whole numbers out of range.
-pub(crate) const KINDS_OUT: [u64; 8] = [0, 7, 8, 9, 10, 11, 12, U64_MAX];
+pub(crate) const KINDS_OUT: [u64; 8] = [0, 7, 8, 9, 10, 11, 12, u64::MAX];
 
-pub(crate) const PATHS_OUT: [u64; 8] = [0, 1_000, 1_001, 1_002, 2_000, 3_000, 4_000, U64_MAX];
+pub(crate) const PATHS_OUT: [u64; 8] = [0, 1_000, 1_001, 1_002, 2_000, 3_000, 4_000, u64::MAX];
 
 pub(crate) const HOURS_OUT: [u64; 8] = [
-    1_000_000, 1_000_001, 1_000_002, 2_000_000, 3_000_000, 4_000_000, 5_000_000, U64_MAX,
+    1_000_000,
+    1_000_001,
+    1_000_002,
+    2_000_000,
+    3_000_000,
+    4_000_000,
+    5_000_000,
+    u64::MAX,
 ];
 
 pub(crate) const POINT_MWH_OUT: [u64; 8] = [
-    10_001, 10_002, 10_003, 20_000, 30_000, 640_000, 640_001, U64_MAX,
+    10_001,
+    10_002,
+    10_003,
+    20_000,
+    30_000,
+    640_000,
+    640_001,
+    u64::MAX,
 ];
 
 pub(crate) const QUANTITIES_OUT: [u64; 8] = [
-    640_001, 640_002, 640_003, 700_000, 800_000, 900_000, 1_000_000, U64_MAX,
+    640_001,
+    640_002,
+    640_003,
+    700_000,
+    800_000,
+    900_000,
+    1_000_000,
+    u64::MAX,
 ];
 
 pub(crate) const DIFFERENTIALS_OUT: [u64; 8] = [
-    1_000_001, 1_000_002, 1_000_003, 2_000_000, 3_000_000, 4_000_000, 5_000_000, U64_MAX,
+    1_000_001,
+    1_000_002,
+    1_000_003,
+    2_000_000,
+    3_000_000,
+    4_000_000,
+    5_000_000,
+    u64::MAX,
 ];
 
 // The import test's numbers, in range but for the last.
@@ -52,7 +71,14 @@ pub(crate) const EDITIONS: [u64; 8] = [1, 2, 1, 2, 1, 2, 0, 3];
 pub(crate) const PRICES: [i64; 8] = [0, 1, -1, 4_000, 6_000, 999_999, 1_000_000, -1_000_000];
 
 pub(crate) const PRICES_OUT: [i64; 8] = [
-    1_000_001, -1_000_001, 1_000_002, -1_000_002, 2_000_000, -2_000_000, I64_MAX, I64_MIN,
+    1_000_001,
+    -1_000_001,
+    1_000_002,
+    -1_000_002,
+    2_000_000,
+    -2_000_000,
+    i64::MAX,
+    i64::MIN,
 ];
 
 pub(crate) const BILLS: [i64; 8] = [
@@ -73,8 +99,8 @@ pub(crate) const BILLS_OUT: [i64; 8] = [
     -1_000_000_000_002,
     2_000_000_000_000,
     -2_000_000_000_000,
-    I64_MAX,
-    I64_MIN,
+    i64::MAX,
+    i64::MIN,
 ];
 
 pub(crate) const SUPPORTS: [i64; 8] = [
@@ -95,80 +121,43 @@ pub(crate) const SUPPORTS_OUT: [i64; 8] = [
     1_000_000_000_000_001,
     1_000_000_000_000_002,
     2_000_000_000_000_000,
-    I64_MAX,
-    I64_MIN,
+    i64::MAX,
+    i64::MIN,
 ];
 
-pub(crate) fn one_of(row: [u64; 8], w: u64) -> u64 {
-    row[(w % 8) as usize]
-}
-
-pub(crate) fn one_of_cents(row: [i64; 8], w: u64) -> i64 {
+pub(crate) fn one_of<T: Copy>(row: &[T; 8], w: u64) -> T {
     row[(w % 8) as usize]
 }
 
 // Both ends of the range.
 pub(crate) fn hour(w: u64) -> u64 {
-    w % 8 + pick(w / 8 % 2 == 0, 0, 999_992) % 1_000_000
+    let start = if w / 8 % 2 == 0 { 0 } else { 999_992 };
+    start + w % 8
 }
 
 pub(crate) fn mwh(w: u64) -> u64 {
-    pick(w % 2 == 0, w / 2 % 10_001, one_of(POINT_MWH, w / 2))
+    if w % 2 == 0 {
+        w / 2 % 10_001
+    } else {
+        one_of(&POINT_MWH, w / 2)
+    }
 }
 
 // Any price, or one of the row.
-pub(crate) fn price_or(row: [i64; 8], w: u64) -> i64 {
+pub(crate) fn price_or(row: &[i64; 8], w: u64) -> i64 {
     if w % 2 == 0 {
-        return (w / 2 % 2_000_001) as i64 - 1_000_000;
+        (w / 2 % 2_000_001) as i64 - 1_000_000
+    } else {
+        one_of(row, w / 2)
     }
-    one_of_cents(row, w / 2)
-}
-
-pub(crate) fn either(first: bool, a: i64, b: i64) -> i64 {
-    if first { a } else { b }
 }
 
 // One less than this many cents, as many, or one more, by w; never below 0.
 pub(crate) fn near(cents: u64, w: u64) -> i64 {
-    let v = cents % 2_000_000_000_000_001 + w % 3;
-    if v == 0 { 0 } else { (v - 1) as i64 }
+    (cents % 2_000_000_000_000_001 + w % 3).saturating_sub(1) as i64
 }
 
 // Twice an amount's distance from 0.
 pub(crate) fn doubled(cents: i64) -> u64 {
-    amounts::magnitude(cents) % 1_000_000_000_000_001 * 2
-}
-
-// An amount within 10^15 of zero, as its place on the line from -10^15 on.
-fn on_line(cents: i64) -> u64
-    ensures { result ≤ 2000000000000000 }
-{
-    let v = amounts::magnitude(cents) % 1_000_000_000_000_001;
-    if cents < 0 {
-        return 1_000_000_000_000_000 - v;
-    }
-    1_000_000_000_000_000 + v
-}
-
-// The amount at this place of the line.
-fn at(place: u64) -> i64 {
-    (place % 2_000_000_000_000_001) as i64 - MOST_SUPPORT
-}
-
-pub(crate) fn one_more(cents: i64) -> i64 {
-    at(on_line(cents) + 1)
-}
-
-pub(crate) fn one_less(cents: i64) -> i64 {
-    at(on_line(cents) + 2_000_000_000_000_000)
-}
-
-// The sum, where one part of it is another.
-pub(crate) fn moved(cents: i64, old: i64, new: i64) -> i64 {
-    at(on_line(cents) + on_line(new) + 2_000_000_000_000_001 - on_line(old))
-}
-
-// Half of a support, without the odd cent.
-pub(crate) fn half(cents: i64) -> i64 {
-    at(1_000_000_000_000_000 + amounts::magnitude(cents) % 1_000_000_000_000_001 / 2)
+    cents.unsigned_abs() % 1_000_000_000_000_001 * 2
 }
