@@ -6,7 +6,7 @@ ghost use Rattle.kinds.specs.Kinds.{kind_row};
 ghost use Rattle.bids.specs.Points.{curve};
 ghost use Rattle.bids.specs.Rows.{point_rows, bid_rows};
 ghost use Rattle.bids.specs.Bids.{import_bid, export_bid, hour_ahead_bid, bid_mwh, bid_requirement};
-ghost use Rattle.bids.specs.Entries.{bid_verdict, Exposed};
+ghost use Rattle.bids.specs.Entries.{bid_verdict};
 
 use crate::points::{check_points, exposure, largest_mwh, total_mwh, wheel_exposure};
 use kinds::{Kind, unless_exempt};
@@ -93,12 +93,4 @@ pub fn bid(
         mwh: bid_mwh(kind, mwh, prices),
         cents: bid_requirement(kind, mwh, prices, differential, exempt),
     })
-}
-
-// The price exposure of a curve, or the first refusal that applies.
-pub fn price_exposure(mwh: &[u64], prices: &[i64]) -> Result<i64, Refusal>
-    ensures { Exposed mwh.now prices.now result }
-{
-    check_points(mwh, prices)?;
-    Ok(exposure(mwh, prices) as i64)
 }

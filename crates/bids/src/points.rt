@@ -5,6 +5,7 @@ ghost use Rattle.amounts.specs.Limits.{is_price};
 ghost use Rattle.refusals.specs.Refusals.{None, judge, verdict_of};
 ghost use Rattle.bids.specs.Points.{curve, largest_mwh, total_mwh, mwh_at, Exposure, wheel_exposure};
 ghost use Rattle.bids.specs.Rows.{point_rows};
+ghost use Rattle.bids.specs.Entries.{Exposed};
 
 use crate::types::Point;
 use refusals::{Refusal, refuse_if};
@@ -83,4 +84,12 @@ pub(crate) fn wheel_exposure(mwh: &[u64], prices: &[i64]) -> i64
         .zip(prices)
         .map(|(&mwh, &price)| Point { mwh, price }.wheel_cents())
         .fold(0, |most, cents| most.max(cents))
+}
+
+// The price exposure of a curve, or the first refusal that applies.
+pub fn price_exposure(mwh: &[u64], prices: &[i64]) -> Result<i64, Refusal>
+    ensures { Exposed mwh.now prices.now result }
+{
+    check_points(mwh, prices)?;
+    Ok(exposure(mwh, prices) as i64)
 }

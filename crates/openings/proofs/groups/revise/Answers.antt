@@ -9,7 +9,7 @@ use Rattle.kinds.specs.Kinds.{bid_stage}
 use Rattle.refusals.specs.Answers.{bid_of}
 use Rattle.messages.specs.Plan.{stage_rows, bid_for, plan}
 use Rattle.messages.proofs.Tables.{key_refused, key_passed, bid_refused, bid_passed}
-use Rattle.openings.proofs.revise.Goals as goal
+use Rattle.openings.proofs.groups.revise.Goals as goal
 
 pub returns-in_err-check : goal.returns-in_err-check
 unfolding plan

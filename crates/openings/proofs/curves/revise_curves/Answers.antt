@@ -9,7 +9,7 @@ use Rattle.kinds.specs.Kinds.{bid_stage}
 use Rattle.intervals.specs.Intervals.{intervals_in}
 use Rattle.messages.specs.Plan.{stage_rows, intervals_for, plan}
 use Rattle.messages.proofs.Tables.{key_refused, key_passed, curves_refused, curves_passed}
-use Rattle.openings.proofs.revise_curves.Goals as goal
+use Rattle.openings.proofs.curves.revise_curves.Goals as goal
 
 pub returns-in_err-check : goal.returns-in_err-check
 unfolding plan

@@ -8,7 +8,7 @@ use Rattle.refusals.specs.declared.Refusal.TheVariants.{AlreadyOpen}
 use Rattle.intervals.specs.Intervals.{intervals_in}
 use Rattle.messages.specs.Plan.{intervals_for, plan}
 use Rattle.messages.proofs.Tables.{key_refused, key_passed, curves_refused, curves_passed}
-use Rattle.openings.proofs.open_curves.Goals as goal
+use Rattle.openings.proofs.curves.open_curves.Goals as goal
 
 pub returns-in_err-check : goal.returns-in_err-check
 unfolding plan

@@ -1,4 +1,4 @@
--- `bids::price_exposure`: refused by the first row that applies, or else the exposure.
+-- `points::price_exposure`: refused by the first row that applies, or else the exposure.
 use mathlib.Core.Path.{◌≡◌, sym, subst}
 use mathlib.Core.List.{List}
 use native.Mathlib.Omega.{arith}
@@ -8,7 +8,7 @@ use Rattle.refusals.proofs.Laws.{none_applied, first_refused}
 use Rattle.bids.specs.Rows.{point_rows}
 use Rattle.bids.specs.Entries.{Exposed}
 use Rattle.bids.proofs.Curves.{fit, exposed-small, point-rows-numbered}
-use Rattle.bids.proofs.bids.price_exposure.Goals as goal
+use Rattle.bids.proofs.points.price_exposure.Goals as goal
 
 pub returns-in_err-check_points : goal.returns-in_err-check_points
 unfolding Exposed

@@ -8,7 +8,7 @@ use Rattle.refusals.specs.declared.Refusal.TheVariants.{AlreadyOpen}
 use Rattle.refusals.specs.Answers.{bid_of}
 use Rattle.messages.specs.Plan.{bid_for, plan}
 use Rattle.messages.proofs.Tables.{key_refused, key_passed, bid_refused, bid_passed}
-use Rattle.openings.proofs.open.Goals as goal
+use Rattle.openings.proofs.groups.open.Goals as goal
 
 pub returns-in_err-check : goal.returns-in_err-check
 unfolding plan
