@@ -4,6 +4,7 @@ use mathlib.Core.Bool.{Bool, true, false, ◌&&◌}
 use mathlib.Core.List.{List, [], ◌∷◌}
 use Prim.Native.Nat.{ℕ, ◌-◌, ◌≤◌}
 use native.Mathlib.Omega.{arith}
+use Rattle.std.proofs.lemmas.Bool.Decides.{nat_tests}
 use borrow.Author.Tests.{eqb-true, leb-true}
 use lib.Dec.{leb, eqb}
 use lib.ListN.{get_or}
@@ -20,14 +21,7 @@ pub record Within (m d h : ℕ) : Type 0 where
   pub hour-last : h ≤ 23
 
 pub within : (m d h : ℕ) → time_in_range m d h ≡ true → Within m d h
-within m d h e =
-    let months = left (leb 1 m && leb m 12) (leb d 1) (left _ (leb h 23) e) in
-    record {
-      month-first = leb-true 1 m (left (leb 1 m) (leb m 12) months);
-      month-last = leb-true m 12 (right (leb 1 m) (leb m 12) months);
-      day-last = leb-true d 1 (right (leb 1 m && leb m 12) (leb d 1) (left _ (leb h 23) e));
-      hour-last = leb-true h 23 (right (leb 1 m && leb m 12 && leb d 1) (leb h 23) e);
-    }
+within m d h e = grind (arith, nat_tests)
 
 pub in_day_type : (day : DayType) → leb (day_number day) 1 ≡ true
 in_day_type Weekday = refl
@@ -37,11 +31,7 @@ pub day-last : (day : DayType) → day_number day ≤ 1
 day-last day = leb-true (day_number day) 1 (in_day_type day)
 
 pub no_day_type : (m d h : ℕ) → leb d 1 ≡ false → time_in_range m d h ≡ false
-no_day_type m d h e = rw e (of (leb 1 m && leb m 12) (leb h 23))
-  where
-    of : (a b : Bool) → (a && false && b) ≡ false
-    of true b = refl
-    of false b = refl
+no_day_type m d h e = grind (arith, nat_tests)
 
 -- a test of months, day types and hours, at every time
 abbrev pub always : (ℕ → ℕ → ℕ → Bool) → Bool

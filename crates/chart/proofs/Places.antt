@@ -5,6 +5,7 @@ use mathlib.Core.List.{List, [], ◌∷◌, ◌++◌}
 use Prim.Native.Nat.{ℕ, zero, suc, ◌+◌, ◌-◌, ◌*◌, ◌≤◌, ◌<◌}
 use native.Mathlib.Nat.{zero-add, suc-add}
 use native.Mathlib.Omega.{arith}
+use Rattle.std.proofs.lemmas.Bool.Decides.{nat_tests}
 use borrow.Author.Tests.{leb-true, eqb-true}
 use lib.Dec.{leb, eqb}
 use lib.ListN.{get_or, length, get_or-append}
@@ -22,7 +23,7 @@ pub record Cell (bus group : ℕ) : Type 0 where
   pub group-last : group ≤ 18
 
 pub on-chart : (bus : ℕ) → bus_in_range bus ≡ true → (1 ≤ bus) × (bus ≤ 10)
-on-chart bus e = (leb-true 1 bus (left (leb 1 bus) (leb bus 10) e), leb-true bus 10 (right (leb 1 bus) (leb bus 10) e))
+on-chart bus e = grind (arith, nat_tests)
 
 abbrev in_table : Table → ℕ → ℕ → ℕ
 in_table table bus group = get_or (get_or (table_of table) bus []) group 0
