@@ -1,16 +1,14 @@
 -- What the lookup answers, in the paper's numbers.
-use mathlib.Core.Path.{◌≡◌, refl, sym, ap, ◌∙◌}
+use mathlib.Core.Path.{◌≡◌, sym, ◌∙◌}
 use mathlib.Core.Bool.{Bool, true, false, cond, ◌&&◌}
 use Prim.Native.Nat.{ℕ, ◌≤◌}
-use borrow.Author.Tests.{ne_eqb}
 use lib.Dec.{eqb}
 use native.Mathlib.Omega.{arith}
 use Rattle.std.proofs.lemmas.Bool.Decides.{nat_tests}
-use Rattle.std.proofs.Common.{Ok, unwrap_or}
+use Rattle.std.proofs.Common.{Ok}
 use Rattle.chart.specs.Groups.{eighteen, thirty_three, group_in, time_in_range}
 use Rattle.chart.specs.Published.{differential_of}
-use Rattle.chart.specs.Lookup.{Answer, At, GroupOnly, Refused, bus_in_range, in_edition, if_in_range, answer_in, lookup_of, number_of, group_of, cents_of}
-use Rattle.chart.specs.declared.Entry.{Entry}
+use Rattle.chart.specs.Lookup.{Answer, At, GroupOnly, Refused, bus_in_range, in_edition, answer_in, lookup_of, number_of, group_of, cents_of}
 use Rattle.chart.specs.declared.Table.{Table}
 use Rattle.chart.proofs.Eighteen.{eighteen-parted}
 use Rattle.chart.proofs.Places.{Cell, on-chart, bounds}
