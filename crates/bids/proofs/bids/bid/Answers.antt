@@ -2,7 +2,7 @@
 use borrow.Author.Tests.{le-leb}
 use Rattle.amounts.proofs.Steps.{back}
 use Rattle.kinds.proofs.Fits.{differential-small}
-use Rattle.bids.proofs.Curves.{bid-stands, refused-bid, standing-bid}
+use Rattle.bids.proofs.Curves.{fit, bid-stands, refused-bid, standing-bid}
 use Rattle.bids.proofs.bids.bid.Goals as goal
 
 pub returns-then-refusal-ne0 : goal.returns-then-refusal-ne0
@@ -10,16 +10,15 @@ returns-then-refusal-ne0 c =
     let s = c.args in
     refused-bid s.kind s.mwh.now s.prices.now s.differential s.exempt c.bid_refusal-refusal.result c.bid_refusal-refusal.ensures c.if-refusal-ne0.true
 
-pub bid_mwh-requires : goal.bid_mwh-requires
-bid_mwh-requires c =
+pub invariant_of-points : goal.invariant_of-points
+invariant_of-points c =
     let s = c.args in
-    (bid-stands s.kind s.mwh.now s.prices.now s.differential c.bid_refusal-refusal.result c.bid_refusal-refusal.ensures c.if-refusal-ne0.false).0
+    record { fit = fit (bid-stands s.kind s.mwh.now s.prices.now s.differential c.bid_refusal-refusal.result c.bid_refusal-refusal.ensures c.if-refusal-ne0.false).0 }
 
 pub bid_requirement-requires : goal.bid_requirement-requires
 bid_requirement-requires c =
     let s = c.args in
-    let b = bid-stands s.kind s.mwh.now s.prices.now s.differential c.bid_refusal-refusal.result c.bid_refusal-refusal.ensures c.if-refusal-ne0.false in
-    (b.0, le-leb s.differential 1000000 (differential-small s.kind s.differential b.1))
+    le-leb s.differential 1000000 (differential-small s.kind s.differential (bid-stands s.kind s.mwh.now s.prices.now s.differential c.bid_refusal-refusal.result c.bid_refusal-refusal.ensures c.if-refusal-ne0.false).1)
 
 pub returns : goal.returns
 returns c =

@@ -22,8 +22,8 @@ returns-then-refusal-ne0 c =
 stands : (ms : List ℕ) (ps : List ℤ) {n : ℕ} → n ≡ first (point_rows ms ps) → n ≡ 0 → None (point_rows ms ps)
 stands ms ps e z = none-applies (point_rows ms ps) (point-rows-numbered ms ps) (sym e ∙ z)
 
-pub exposure-requires : goal.exposure-requires
-exposure-requires c = stands c.args.mwh.now c.args.prices.now c.points_refusal-refusal.ensures c.if-refusal-ne0.false
+pub invariant_of-points : goal.invariant_of-points
+invariant_of-points c = record { fit = fit (stands c.args.mwh.now c.args.prices.now c.points_refusal-refusal.ensures c.if-refusal-ne0.false) }
 
 pub overflow_cast-result : goal.overflow_cast-result
 overflow_cast-result c =
