@@ -5,8 +5,8 @@ ghost use Rattle.messages.specs.Plan.{plan};
 
 use crate::finishes::later_record;
 use kinds::{Kind, Stage};
-use messages::types::{Billing, Change, Deed, Message};
 use messages::check_stage;
+use messages::types::{Billing, Change, Deed, Message};
 use records::types::Record;
 use refusals::Refusal;
 

@@ -4,8 +4,8 @@ ghost use Rattle.refusals.specs.Refusals.{verdict_of};
 ghost use Rattle.messages.specs.Plan.{later_record, finished_for, plan};
 
 use kinds::{Kind, Stage};
-use messages::types::{Change, Deed, Finishing, Message};
 use messages::check_stage;
+use messages::types::{Change, Deed, Finishing, Message};
 use records::types::Record;
 use refusals::{Refusal, cents_or_zero};
 

@@ -5,8 +5,8 @@ ghost use Rattle.kinds.specs.Kinds.{rules_of};
 ghost use Rattle.messages.specs.Plan.{posted_record, posted_for, plan};
 
 use kinds::{Kind, Stage};
-use messages::types::{Change, Deed, Message, Posting};
 use messages::check_stage;
+use messages::types::{Change, Deed, Message, Posting};
 use records::types::Record;
 use refusals::{Refusal, cents_or_zero, refuse_if};
 
