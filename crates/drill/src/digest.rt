@@ -79,18 +79,9 @@ fn of_intervals(mwh: Intervals) -> Part {
     }
 }
 
-fn has_none(mwh: Intervals) -> bool {
-    (mwh.first | mwh.second | mwh.third | mwh.fourth) == 0
-}
-
-// Whether a place is zero throughout. Field by field, since a record derives no equality.
+// Whether a place is zero throughout.
 fn is_zero(r: &Record) -> bool {
-    r.stage == 0
-        && (r.key.kind | r.key.path | r.key.hour | r.mwh | r.differential | r.schedule) == 0
-        && !r.exempt
-        && r.price == 0
-        && r.requirement == 0
-        && has_none(r.intervals)
+    *r == Record::blank()
 }
 
 // A place that is zero throughout is passed over; any other goes in as one value, the sum of what it has, so multiplied.

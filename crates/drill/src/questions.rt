@@ -102,7 +102,7 @@ impl Look {
     }
 
     fn row(&self) -> Option<Row> {
-        if self.answer.number() == 0 {
+        if chart::number(self.answer) == 0 {
             Some(self.answered_row())
         } else {
             self.refused_row()
