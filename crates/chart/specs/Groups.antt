@@ -31,6 +31,7 @@ weekday = 0 to 0 ∷ []
 abbrev pub weekend_or_holiday : List Span
 weekend_or_holiday = 1 to 1 ∷ []
 
+-- the number of a day type
 abbrev pub day_number : DayType → ℕ
 day_number Weekday = 0
 day_number WeekendOrHoliday = 1
@@ -150,6 +151,7 @@ pub record BothCharts : Type 0 where
 unfoldable pub season_of : ℕ → ℕ
 season_of month = cond (has summer month) 0 (cond (has winter month) 1 2)
 
+-- a season's place in that order
 abbrev pub place_of : Season → ℕ
 place_of Summer = 0
 place_of Winter = 1
