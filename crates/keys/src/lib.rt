@@ -20,10 +20,11 @@ pub struct Key {
 impl Key {
     pub const MAX_HOUR: u64 = 999_999;
 
+    #[tactic(auto, unfolding(crate::specs::Keys::same_key))]
     pub fn same(self, other: Key) -> bool
         ensures { result ≡ same_key self other }
     {
-        (self.kind == other.kind) & (self.path == other.path) & (self.hour == other.hour)
+        self == other
     }
 
     fn kind_fits(self) -> bool
