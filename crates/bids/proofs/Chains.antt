@@ -1,4 +1,4 @@
--- What the code takes from the points by a chain over pairs of MWh and price: the same as the definitions take from the curve.
+-- What the code takes from the points by a chain over one of the lists, or over pairs of MWh and price: the same as the definitions take from the curve.
 -- Assumes nothing.
 use mathlib.Core.Path.{◌≡◌, refl, sym, ap, ◌∙◌}
 use mathlib.Core.List.{List, [], ◌∷◌, map}
@@ -13,9 +13,9 @@ use Rattle.std.proofs.Common.{Iter}
 use Rattle.std.specs.Iterator.Adapters.{zip_first, zip_second}
 use Rattle.std.specs.Slice.Iter.{iter_rest}
 use Rattle.std.proofs.iter.Yields.{fronts}
-use Rattle.std.proofs.lemmas.Slice.Zip.{length-zip, get_or-zip}
+use Rattle.std.proofs.lemmas.Slice.Zip.{length-zip, get_or-zip, firsts-zip}
 use Rattle.std.proofs.lemmas.Iterator.{YieldsList, YieldsList-from_slice, YieldsList-from_zip, zips}
-use Rattle.std.specs.List.{zip, fold, reduce, sum_by}
+use Rattle.std.specs.List.{zip, fold, reduce, sum, sum_by}
 use Rattle.std.specs.Option.{unwrap_or}
 use Rattle.amounts.specs.Amount.{up, down, max_of}
 use Rattle.amounts.specs.Lists.{every}
@@ -65,17 +65,26 @@ module _ (F : List Point → ℕ) (f : Point → ℕ) (none : F [] ≡ 0) (step 
   max_zip (m ∷ ms) [] = sym none
   max_zip (m ∷ ms) (p ∷ ps) = most (f (point_of (m, p))) ms ps ∙ sym (step (point_of (m, p)) (curve ms ps))
 
-pub total-zip : (ms : List ℕ) (ps : List ℤ) → sum_by (λ (z : ℕ × ℤ). z.0) (zip ms ps) ≡ total_mwh (curve ms ps)
+total-from : (n : ℕ) (ms : List ℕ) (ps : List ℤ) → length ms ≡ length ps → fold (λ (a m : ℕ). a + m) n ms ≡ n + total_mwh (curve ms ps)
 unfolding total_mwh
-total-zip = sum_zip total_mwh (λ (q : Point). q.mwh) refl (λ q qs. refl)
+total-from n [] [] e = omega arith
+total-from n [] (p ∷ ps) e = absurd (omega arith)
+total-from n (m ∷ ms) [] e = absurd (omega arith)
+total-from n (m ∷ ms) (p ∷ ps) e = omega (arith, total-from (n + m) ms ps (omega arith))
+
+pub total-list : (ms : List ℕ) (ps : List ℤ) → length ms ≡ length ps → sum ms ≡ total_mwh (curve ms ps)
+total-list ms ps e = omega (arith, total-from 0 ms ps e)
 
 pub mwh_at-zip : (p : ℕ) (ms : List ℕ) (ps : List ℤ) → sum_by (λ (z : ℕ × ℤ). share p (point_of z)) (zip ms ps) ≡ mwh_at p (curve ms ps)
 unfolding mwh_at
 mwh_at-zip p = sum_zip (mwh_at p) (share p) refl (λ q qs. refl)
 
-pub largest-zip : (ms : List ℕ) (ps : List ℤ) → unwrap_or (reduce max (map (λ (z : ℕ × ℤ). z.0) (zip ms ps))) 0 ≡ largest_mwh (curve ms ps)
+largest-zip : (ms : List ℕ) (ps : List ℤ) → unwrap_or (reduce max (map (λ (z : ℕ × ℤ). z.0) (zip ms ps))) 0 ≡ largest_mwh (curve ms ps)
 unfolding largest_mwh
 largest-zip = max_zip largest_mwh (λ (q : Point). q.mwh) refl (λ q qs. refl)
+
+pub largest-list : (ms : List ℕ) (ps : List ℤ) → length ms ≡ length ps → unwrap_or (reduce max ms) 0 ≡ largest_mwh (curve ms ps)
+largest-list ms ps e = ap (λ (ns : List ℕ). unwrap_or (reduce max ns) 0) (sym (firsts-zip ms ps (sym e))) ∙ largest-zip ms ps
 
 tried-zip : (l : List Point) (ms : List ℕ) (ps : List ℤ) → unwrap_or (reduce max (map (λ (z : ℕ × ℤ). up z.1 * mwh_at (up z.1) l) (zip ms ps))) 0 ≡ tried l (curve ms ps)
 unfolding tried

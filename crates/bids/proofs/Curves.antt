@@ -23,8 +23,8 @@ use Rattle.kinds.proofs.ByKind.{by-kind, by-rules, rules-1, rules-2, rules-3, ru
 use Rattle.kinds.proofs.Fits.{pending-range, exempt-range, differential-small}
 use Rattle.bids.specs.Points.{Point, curve, largest_mwh, total_mwh, mwh_at, Exposure, tried, exposure, wheel_exposure}
 use Rattle.bids.specs.Bids.{import_bid, export_bid, hour_ahead_bid, bid_mwh, bid_requirement}
+pub use Rattle.bids.specs.Rows.{Fit}
 use Rattle.bids.specs.Rows.{point_rows, bid_rows}
-use Rattle.bids.specs.Entries.{bid_verdict}
 use Rattle.bids.proofs.Largest.{exposure-only}
 
 -- ---- rows
@@ -36,14 +36,6 @@ point-rows-numbered ms ps = refl
 pub bid-rows-numbered : (kind : ℕ) (ms : List ℕ) (ps : List ℤ) (d : ℕ) → numbered (bid_rows kind ms ps d) ≡ true
 unfolding numbered bid_rows
 bid-rows-numbered kind ms ps d = numbered-append (point_rows ms ps) (row 8 (not (differential_fits (rules_of kind) d)) ∷ []) (point-rows-numbered ms ps) refl
-
--- two lists that no row refuses
-pub record Fit (ms : List ℕ) (ps : List ℤ) : Type 0 where
-  pub some : 1 ≤ length ms
-  pub few : length ms ≤ 64
-  pub equal : length ms ≡ length ps
-  pub mwhs : every is_point_mwh ms ≡ true
-  pub prices : every is_price ps ≡ true
 
 pub fit : {ms : List ℕ} {ps : List ℤ} → None (point_rows ms ps) → Fit ms ps
 unfolding None point_rows

@@ -1,14 +1,14 @@
 // Stage 1: the bid MWh and the requirement of a group, from its points.
 ghost use Rattle.std.specs.Prelude.{◌≡◌, ◌∷◌, true};
 ghost use Rattle.amounts.specs.Limits.{is_differential};
-ghost use Rattle.refusals.specs.Refusals.{None, judge, verdict_of};
+ghost use Rattle.refusals.specs.Refusals.{judge, verdict_of};
 ghost use Rattle.kinds.specs.Kinds.{kind_row};
 ghost use Rattle.bids.specs.Points.{curve};
-ghost use Rattle.bids.specs.Rows.{point_rows, bid_rows};
+ghost use Rattle.bids.specs.Rows.{bid_rows};
 ghost use Rattle.bids.specs.Bids.{import_bid, export_bid, hour_ahead_bid, bid_mwh, bid_requirement};
-ghost use Rattle.bids.specs.Entries.{bid_verdict, Exposed};
+ghost use Rattle.bids.specs.Entries.{bid_verdict};
 
-use crate::points::{check_points, exposure, largest_mwh, total_mwh, wheel_exposure};
+use crate::points::{Curve, check_points};
 use kinds::{Kind, unless_exempt};
 use refusals::{Bid, Refusal, refuse_if};
 
@@ -27,50 +27,48 @@ fn check_bid(kind: u64, mwh: &[u64], prices: &[i64], differential: u64) -> Resul
     )
 }
 
-fn import_bid(mwh: &[u64], prices: &[i64], differential: u64) -> i64
-    requires { None (point_rows mwh.now prices.now) × (is_differential differential ≡ true) }
-    ensures { result ≡ import_bid (curve mwh.now prices.now) differential }
+fn import_bid(points: Curve, differential: u64) -> i64
+    requires { is_differential differential ≡ true }
+    ensures { result ≡ import_bid (curve points.entry.mwh.now points.entry.prices.now) differential }
 {
-    (largest_mwh(mwh, prices) * differential) as i64
+    (points.largest_mwh() * differential) as i64
 }
 
-fn export_bid(mwh: &[u64], prices: &[i64], differential: u64) -> i64
-    requires { None (point_rows mwh.now prices.now) × (is_differential differential ≡ true) }
-    ensures { result ≡ export_bid (curve mwh.now prices.now) differential }
+fn export_bid(points: Curve, differential: u64) -> i64
+    requires { is_differential differential ≡ true }
+    ensures { result ≡ export_bid (curve points.entry.mwh.now points.entry.prices.now) differential }
 {
-    let by_price = exposure(mwh, prices) as i64;
-    let by_differential = (total_mwh(mwh, prices) * differential) as i64;
+    let by_price = points.exposure() as i64;
+    let by_differential = (points.total_mwh() * differential) as i64;
     amounts::larger(by_price, by_differential)
 }
 
-fn hour_ahead_bid(mwh: &[u64], prices: &[i64]) -> i64
-    requires { None (point_rows mwh.now prices.now) }
-    ensures { result ≡ hour_ahead_bid (curve mwh.now prices.now) }
+fn hour_ahead_bid(points: Curve) -> i64
+    ensures { result ≡ hour_ahead_bid (curve points.entry.mwh.now points.entry.prices.now) }
 {
-    exposure(mwh, prices) as i64
+    points.exposure() as i64
 }
 
-fn bid_mwh(kind: u64, mwh: &[u64], prices: &[i64]) -> u64
-    requires { None (point_rows mwh.now prices.now) }
-    ensures { result ≡ bid_mwh kind (curve mwh.now prices.now) }
+fn bid_mwh(kind: u64, points: Curve) -> u64
+    ensures { result ≡ bid_mwh kind (curve points.entry.mwh.now points.entry.prices.now) }
 {
     let rules = Kind { number: kind }.rules();
     if rules.adds {
-        total_mwh(mwh, prices)
+        points.total_mwh()
     } else {
-        largest_mwh(mwh, prices)
+        points.largest_mwh()
     }
 }
 
-fn bid_requirement(kind: u64, mwh: &[u64], prices: &[i64], differential: u64, exempt: bool) -> i64
-    requires { None (point_rows mwh.now prices.now) × (is_differential differential ≡ true) }
-    ensures { result ≡ bid_requirement kind (curve mwh.now prices.now) differential exempt }
+fn bid_requirement(kind: u64, points: Curve, differential: u64, exempt: bool) -> i64
+    requires { is_differential differential ≡ true }
+    ensures { result ≡ bid_requirement kind (curve points.entry.mwh.now points.entry.prices.now) differential exempt }
 {
     match kind {
-        Kind::IMPORT => unless_exempt(exempt, import_bid(mwh, prices, differential)),
-        Kind::EXPORT => export_bid(mwh, prices, differential),
-        Kind::HOUR_AHEAD_EXPORT => hour_ahead_bid(mwh, prices),
-        Kind::WHEEL => wheel_exposure(mwh, prices),
+        Kind::IMPORT => unless_exempt(exempt, import_bid(points, differential)),
+        Kind::EXPORT => export_bid(points, differential),
+        Kind::HOUR_AHEAD_EXPORT => hour_ahead_bid(points),
+        Kind::WHEEL => points.wheel_exposure(),
         // It bids by four curves: its row refuses first.
         Kind::QUARTER_HOUR_EXPORT => 0,
         Kind::VIRTUAL => 0,
@@ -89,16 +87,9 @@ pub fn bid(
     ensures { verdict_of result ≡ bid_verdict kind mwh.now prices.now differential exempt }
 {
     check_bid(kind, mwh, prices, differential)?;
+    let points = Curve { mwh, prices };
     Ok(Bid {
-        mwh: bid_mwh(kind, mwh, prices),
-        cents: bid_requirement(kind, mwh, prices, differential, exempt),
+        mwh: bid_mwh(kind, points),
+        cents: bid_requirement(kind, points, differential, exempt),
     })
-}
-
-// The price exposure of a curve, or the first refusal that applies.
-pub fn price_exposure(mwh: &[u64], prices: &[i64]) -> Result<i64, Refusal>
-    ensures { Exposed mwh.now prices.now result }
-{
-    check_points(mwh, prices)?;
-    Ok(exposure(mwh, prices) as i64)
 }

@@ -5,4 +5,5 @@ mod bids;
 mod points;
 pub mod types;
 
-pub use bids::{bid, price_exposure};
+pub use bids::bid;
+pub use points::price_exposure;

@@ -1,30 +1,17 @@
 -- What the lookup answers, in the paper's numbers.
-use mathlib.Core.Path.{◌≡◌, refl, sym, ap, ◌∙◌}
+use mathlib.Core.Path.{◌≡◌, sym, ◌∙◌}
 use mathlib.Core.Bool.{Bool, true, false, cond, ◌&&◌}
 use Prim.Native.Nat.{ℕ, ◌≤◌}
-use borrow.Author.Tests.{ne_eqb}
 use lib.Dec.{eqb}
-use Rattle.std.proofs.Common.{Ok, unwrap_or}
+use native.Mathlib.Omega.{arith}
+use Rattle.std.proofs.lemmas.Bool.Decides.{nat_tests}
+use Rattle.std.proofs.Common.{Ok}
 use Rattle.chart.specs.Groups.{eighteen, thirty_three, group_in, time_in_range}
 use Rattle.chart.specs.Published.{differential_of}
-use Rattle.chart.specs.Lookup.{Answer, At, GroupOnly, Refused, bus_in_range, in_edition, if_in_range, answer_in, lookup_of, number_of, group_of, cents_of}
-use Rattle.chart.specs.declared.Entry.{Entry}
+use Rattle.chart.specs.Lookup.{Answer, At, GroupOnly, Refused, bus_in_range, in_edition, answer_in, lookup_of, number_of, group_of, cents_of}
 use Rattle.chart.specs.declared.Table.{Table}
 use Rattle.chart.proofs.Eighteen.{eighteen-parted}
 use Rattle.chart.proofs.Places.{Cell, on-chart, bounds}
-
-group-by : (b : Bool) (g x k : ℕ) → (cond b (At g x) (GroupOnly k)).group ≡ cond b g k
-group-by true g x k = refl
-group-by false g x k = refl
-
-cents-by : (b : Bool) (g x k : ℕ) → unwrap_or (cond b (At g x) (GroupOnly k)).differential 0 ≡ cond b x 0
-cents-by true g x k = refl
-cents-by false g x k = refl
-
--- what a refusal has in the place of each
-asked-if : (f : Answer → ℕ) (b : Bool) (e : Entry) → f (if_in_range b e) ≡ cond b (f (Ok e)) (f Refused)
-asked-if f true e = refl
-asked-if f false e = refl
 
 module _ (edition : ℕ) (table : Table) (bus month day_type hour : ℕ) where
   abbrev inside : Bool
@@ -42,57 +29,45 @@ module _ (edition : ℕ) (table : Table) (bus month day_type hour : ℕ) where
 
   pub in-older : edition ≡ 1 → answer_in edition table bus month day_type hour ≡ At group (differential_of table bus group)
   unfolding answer_in
-  in-older e = rw e
+  in-older e = grind (arith, nat_tests)
 
   pub in-newer : (edition ≡ 1 → ⊥) → answer_in edition table bus month day_type hour ≡ GroupOnly newer
   unfolding answer_in
-  in-newer n = rw (ne_eqb edition 1 n)
+  in-newer n = grind (arith, nat_tests)
 
   pub answered : inside ≡ true → answer ≡ Ok (answer_in edition table bus month day_type hour)
   unfolding lookup_of
-  answered e = ap (λ (b : Bool). if_in_range b (answer_in edition table bus month day_type hour)) e
+  answered e = grind (arith, nat_tests)
 
   pub refused : inside ≡ false → answer ≡ Refused
   unfolding lookup_of
-  refused e = ap (λ (b : Bool). if_in_range b (answer_in edition table bus month day_type hour)) e
+  refused e = grind (arith, nat_tests)
 
   pub in_chart : in_edition edition table ≡ true → bus_in_range bus ≡ true → time_in_range month day_type hour ≡ true → answer ≡ Ok (answer_in edition table bus month day_type hour)
-  in_chart e b t = let i : inside ≡ true = simp (e, b, t) in answered i
+  in_chart e b t = answered (grind (arith, nat_tests))
 
   pub no_edition : in_edition edition table ≡ false → answer ≡ Refused
-  no_edition e = let i : inside ≡ false = simp e in refused i
+  no_edition e = refused (grind (arith, nat_tests))
 
   pub no_bus : bus_in_range bus ≡ false → answer ≡ Refused
-  no_bus e = refused (of (in_edition edition table) (bus_in_range bus) (time_in_range month day_type hour) e)
-    where
-      of : (a b t : Bool) → b ≡ false → (a && b && t) ≡ false
-      of true b t e = simp e
-      of false b t e = refl
+  no_bus e = refused (grind (arith, nat_tests))
 
   pub no_time : time_in_range month day_type hour ≡ false → answer ≡ Refused
-  no_time e = refused (of (in_edition edition table && bus_in_range bus) (time_in_range month day_type hour) e)
-    where
-      of : (a t : Bool) → t ≡ false → (a && t) ≡ false
-      of true t e = e
-      of false t e = refl
+  no_time e = refused (grind (arith, nat_tests))
 
   -- 01, Turned away, and 02, order 5: 18 exactly when the edition has no such table, or the bus or the time is out of range; 0 besides
   pub number : number_of answer ≡ cond inside 0 18
   unfolding lookup_of answer_in
-  number = asked-if number_of inside (answer_in edition table bus month day_type hour)
+  number = grind (arith, nat_tests)
 
   pub groups : group_of answer ≡ cond inside (cond (eqb edition 1) group newer) 0
   unfolding lookup_of answer_in
-  groups =
-      asked-if group_of inside (answer_in edition table bus month day_type hour)
-      ∙ ap (λ (n : ℕ). cond inside n 0) (group-by (eqb edition 1) group (differential_of table bus group) newer)
+  groups = grind (arith, nat_tests)
 
   -- 02, order 5: "The new edition answers the group only"
   pub cents : cents_of answer ≡ cond inside (cond (eqb edition 1) (differential_of table bus group) 0) 0
   unfolding lookup_of answer_in
-  cents =
-      asked-if cents_of inside (answer_in edition table bus month day_type hour)
-      ∙ ap (λ (n : ℕ). cond inside n 0) (cents-by (eqb edition 1) group (differential_of table bus group) newer)
+  cents = grind (arith, nat_tests)
 
   -- the contract leaves one answer
   pub determined : (r s : Answer) → r ≡ answer → s ≡ answer → r ≡ s

@@ -1,16 +1,17 @@
 -- A chart has one group for each month, day type and hour, and some hour for each group, where one computed test says so.
-use mathlib.Core.Path.{◌≡◌, refl, ap}
+use mathlib.Core.Path.{◌≡◌, refl}
 use mathlib.Core.Bool.{Bool, true, false, ◌&&◌}
 use mathlib.Core.List.{List, [], ◌∷◌}
 use Prim.Native.Nat.{ℕ, ◌-◌, ◌≤◌}
 use native.Mathlib.Omega.{arith}
-use borrow.Author.Tests.{eqb-true, leb-true}
+use Rattle.std.proofs.lemmas.Bool.{and_parts}
+use Rattle.std.proofs.lemmas.Bool.Decides.{nat_tests}
 use lib.Dec.{leb, eqb}
 use lib.ListN.{get_or}
 use Rattle.chart.specs.Groups.{Span, ◌to◌, Row, row, groups_at, group_in, day_number, time_in_range, Hour, Parted}
 use Rattle.chart.specs.declared.DayType.{DayType}
 use Rattle.chart.specs.declared.DayType.TheVariants.{Weekday, WeekendOrHoliday}
-use Rattle.chart.proofs.Ranges.{left, right, every, at, never}
+use Rattle.chart.proofs.Ranges.{every, at}
 
 -- what stands in the ranges of a time
 pub record Within (m d h : ℕ) : Type 0 where
@@ -20,28 +21,18 @@ pub record Within (m d h : ℕ) : Type 0 where
   pub hour-last : h ≤ 23
 
 pub within : (m d h : ℕ) → time_in_range m d h ≡ true → Within m d h
-within m d h e =
-    let months = left (leb 1 m && leb m 12) (leb d 1) (left _ (leb h 23) e) in
-    record {
-      month-first = leb-true 1 m (left (leb 1 m) (leb m 12) months);
-      month-last = leb-true m 12 (right (leb 1 m) (leb m 12) months);
-      day-last = leb-true d 1 (right (leb 1 m && leb m 12) (leb d 1) (left _ (leb h 23) e));
-      hour-last = leb-true h 23 (right (leb 1 m && leb m 12 && leb d 1) (leb h 23) e);
-    }
+within m d h e = grind (arith, nat_tests)
 
 pub in_day_type : (day : DayType) → leb (day_number day) 1 ≡ true
 in_day_type Weekday = refl
 in_day_type WeekendOrHoliday = refl
 
 pub day-last : (day : DayType) → day_number day ≤ 1
-day-last day = leb-true (day_number day) 1 (in_day_type day)
+day-last Weekday = omega arith
+day-last WeekendOrHoliday = omega arith
 
 pub no_day_type : (m d h : ℕ) → leb d 1 ≡ false → time_in_range m d h ≡ false
-no_day_type m d h e = rw e (of (leb 1 m && leb m 12) (leb h 23))
-  where
-    of : (a b : Bool) → (a && false && b) ≡ false
-    of true b = refl
-    of false b = refl
+no_day_type m d h e = grind (arith, nat_tests)
 
 -- a test of months, day types and hours, at every time
 abbrev pub always : (ℕ → ℕ → ℕ → Bool) → Bool
@@ -63,14 +54,14 @@ alone last (g ∷ []) = leb 1 g && leb g last
 alone last (g ∷ k ∷ gs) = false
 
 alone-one : (last : ℕ) (gs : List ℕ) → alone last gs ≡ true → gs ≡ get_or gs 0 0 ∷ []
-alone-one last [] e = never e
+alone-one last [] e = grind (arith, nat_tests)
 alone-one last (g ∷ []) e = refl
-alone-one last (g ∷ k ∷ gs) e = never e
+alone-one last (g ∷ k ∷ gs) e = grind (arith, nat_tests)
 
 alone-numbered : (last : ℕ) (gs : List ℕ) → alone last gs ≡ true → (1 ≤ get_or gs 0 0) × (get_or gs 0 0 ≤ last)
-alone-numbered last [] e = never e
-alone-numbered last (g ∷ []) e = (leb-true 1 g (left (leb 1 g) (leb g last) e), leb-true g last (right (leb 1 g) (leb g last) e))
-alone-numbered last (g ∷ k ∷ gs) e = never e
+alone-numbered last [] e = grind (arith, nat_tests)
+alone-numbered last (g ∷ []) e = grind (arith, nat_tests)
+alone-numbered last (g ∷ k ∷ gs) e = grind (arith, nat_tests)
 
 abbrev pub this : ℕ → List ℕ → Bool
 this g [] = false
@@ -78,9 +69,9 @@ this g (k ∷ []) = eqb k g
 this g (k ∷ l ∷ gs) = false
 
 this-only : (g : ℕ) (gs : List ℕ) → this g gs ≡ true → gs ≡ g ∷ []
-this-only g [] e = never e
-this-only g (k ∷ []) e = ap (λ (n : ℕ). n ∷ []) (eqb-true k g e)
-this-only g (k ∷ l ∷ gs) e = never e
+this-only g [] e = grind (arith, nat_tests)
+this-only g (k ∷ []) e = grind (arith, nat_tests)
+this-only g (k ∷ l ∷ gs) e = grind (arith, nat_tests)
 
 abbrev pub first : List Span → ℕ
 first [] = 0
@@ -106,12 +97,13 @@ reached-hour : (chart : List Row) (g : ℕ) (r : Row) → reached chart g r ≡ 
 reached-hour chart g r e =
     let inside = time_in_range (month_of r) (day_of r) (hour_of r) in
     let found = groups_at chart (month_of r) (day_of r) (hour_of r) in
+    let both = and_parts inside (this g found) e in
     record {
       month = month_of r;
       day_type = day_of r;
       hour = hour_of r;
-      time = left inside (this g found) e;
-      only = this-only g found (right inside (this g found) e);
+      time = both.0;
+      only = this-only g found both.1;
     }
 
 -- the test: every time has one group from 1 to the last, and each of these is the group of its row's first hour
@@ -123,10 +115,11 @@ unfolding group_in
 parted last chart e =
     let times = always (λ m d h. alone last (groups_at chart m d h)) in
     let groups = every (λ g. reached chart g (row_of chart g)) 1 last in
-    let single = at-time (λ m d h. alone last (groups_at chart m d h)) (left times groups e) in
+    let both = and_parts times groups e in
+    let single = at-time (λ m d h. alone last (groups_at chart m d h)) both.0 in
     record {
       one = λ m d h t. alone-one last (groups_at chart m d h) (single m d h t);
       numbered = λ m d h t. alone-numbered last (groups_at chart m d h) (single m d h t);
       some =
-          λ g low high. reached-hour chart g (row_of chart g) (at (λ g. reached chart g (row_of chart g)) 1 last (right times groups e) g low (omega arith));
+          λ g low high. reached-hour chart g (row_of chart g) (at (λ g. reached chart g (row_of chart g)) 1 last both.1 g low (omega arith));
     }

@@ -5,14 +5,16 @@ use mathlib.Core.List.{List, [], ◌∷◌, ◌++◌}
 use Prim.Native.Nat.{ℕ, zero, suc, ◌+◌, ◌-◌, ◌*◌, ◌≤◌, ◌<◌}
 use native.Mathlib.Nat.{zero-add, suc-add}
 use native.Mathlib.Omega.{arith}
-use borrow.Author.Tests.{leb-true, eqb-true}
+use Rattle.std.proofs.lemmas.Bool.{and_parts}
+use Rattle.std.proofs.lemmas.Bool.Decides.{nat_tests}
+use borrow.Author.Tests.{eqb-true}
 use lib.Dec.{leb, eqb}
 use lib.ListN.{get_or, length, get_or-append}
 use Rattle.chart.specs.Published.{import_table, export_table, table_of, differential_of, joined, published, start_of}
 use Rattle.chart.specs.Lookup.{bus_in_range}
 use Rattle.chart.specs.declared.Table.{Table}
 use Rattle.chart.specs.declared.Table.TheVariants.{Import, Export}
-use Rattle.chart.proofs.Ranges.{left, right, every, at}
+use Rattle.chart.proofs.Ranges.{every, at}
 
 -- a bus of the chart and a group of it
 pub record Cell (bus group : ℕ) : Type 0 where
@@ -22,7 +24,7 @@ pub record Cell (bus group : ℕ) : Type 0 where
   pub group-last : group ≤ 18
 
 pub on-chart : (bus : ℕ) → bus_in_range bus ≡ true → (1 ≤ bus) × (bus ≤ 10)
-on-chart bus e = (leb-true 1 bus (left (leb 1 bus) (leb bus 10) e), leb-true bus 10 (right (leb 1 bus) (leb bus 10) e))
+on-chart bus e = grind (arith, nat_tests)
 
 abbrev in_table : Table → ℕ → ℕ → ℕ
 in_table table bus group = get_or (get_or (table_of table) bus []) group 0
@@ -40,15 +42,15 @@ eighteens (row ∷ rows) = eqb (length row) 18 && eighteens rows
 in-joined : (rows : List (List ℕ)) → eighteens rows ≡ true → (bus group : ℕ) → bus < length rows → group < 18 → get_or (joined rows) (bus * 18 + group) 0 ≡ get_or (get_or rows bus []) group 0
 in-joined [] e bus group hb hg = absurd (omega arith)
 in-joined (row ∷ rows) e zero group hb hg =
-    let long = eqb-true (length row) 18 (left (eqb (length row) 18) (eighteens rows) e) in
+    let long = eqb-true (length row) 18 (and_parts (eqb (length row) 18) (eighteens rows) e).0 in
     let place : zero * 18 + group ≡ group = omega arith in
     ap (λ (n : ℕ). get_or (row ++ joined rows) n 0) place ∙ get_or-append row (joined rows) 0 group (omega arith)
 in-joined (row ∷ rows) e (suc bus) group hb hg =
-    let long = eqb-true (length row) 18 (left (eqb (length row) 18) (eighteens rows) e) in
+    let long = eqb-true (length row) 18 (and_parts (eqb (length row) 18) (eighteens rows) e).0 in
     let place : suc bus * 18 + group ≡ length row + (bus * 18 + group) = omega arith in
     ap (λ (n : ℕ). get_or (row ++ joined rows) n 0) place
     ∙ after row (joined rows) (bus * 18 + group)
-    ∙ in-joined rows (right (eqb (length row) 18) (eighteens rows) e) bus group (omega arith) hg
+    ∙ in-joined rows (and_parts (eqb (length row) 18) (eighteens rows) e).1 bus group (omega arith) hg
 
 pub placed : (table : Table) (bus group : ℕ) → Cell bus group → get_or published (start_of table + (bus - 1) * 18 + (group - 1)) 0 ≡ differential_of table bus group
 unfolding published import_table export_table table_of differential_of
@@ -82,7 +84,7 @@ bounds table bus group c =
     let cents = in_table table (bus - 1) (group - 1) in
     let of-bus = at (λ b. every (λ g. bounded (in_table table b g)) 0 18) 0 10 (all-bounded table) (bus - 1) (omega arith) (omega arith) in
     let e = at (λ g. bounded (in_table table (bus - 1) g)) 0 18 of-bus (group - 1) (omega arith) (omega arith) in
-    (leb-true 2388 cents (left (leb 2388 cents) (leb cents 32148) e), leb-true cents 32148 (right (leb 2388 cents) (leb cents 32148) e))
+    grind (arith, nat_tests)
 
 -- ".. and both ends occur in the import table"
 pub least : differential_of Import 4 8 ≡ 2388

@@ -4,11 +4,12 @@ use mathlib.Core.Bool.{Bool, true, cond, ◌&&◌}
 use mathlib.Core.List.{List, [], ◌∷◌}
 use Prim.Native.Nat.{ℕ, zero, suc, ◌≤◌}
 use native.Mathlib.Omega.{arith}
+use Rattle.std.proofs.lemmas.Bool.{and_parts}
 use borrow.Author.Tests.{eqb-true}
 use lib.Dec.{eqb}
 use lib.ListN.{get_or}
 use Rattle.chart.specs.Groups.{has, thirty_three, groups_at, group_in, time_in_range, Parted, BothCharts, summer, season_of, month_in}
-use Rattle.chart.proofs.Ranges.{left, right, every, at}
+use Rattle.chart.proofs.Ranges.{every, at}
 use Rattle.chart.proofs.Parted.{parted, always, at-time}
 use Rattle.chart.proofs.Eighteen.{eighteen-parted}
 
@@ -63,8 +64,9 @@ alone = refl
 pub hour-18-alone : (m d h : ℕ) → time_in_range m d h ≡ true → group_in thirty_three m d h ≡ 4 → (has summer m ≡ true) × (d ≡ 0) × (h ≡ 18)
 hour-18-alone m d h t four =
     let e : (has summer m && eqb d 0 && eqb h 18) ≡ true = subst (λ (g : ℕ). cond (eqb g 4) (has summer m && eqb d 0 && eqb h 18) true ≡ true) four (at-time only-18 alone m d h t) in
-    let early = left (has summer m && eqb d 0) (eqb h 18) e in
-    (left (has summer m) (eqb d 0) early, eqb-true d 0 (right (has summer m) (eqb d 0) early), eqb-true h 18 (right (has summer m && eqb d 0) (eqb h 18) e))
+    let both = and_parts (has summer m && eqb d 0) (eqb h 18) e in
+    let early = and_parts (has summer m) (eqb d 0) both.0 in
+    (early.0, eqb-true d 0 early.1, eqb-true h 18 both.1)
 
 -- ".. and winter night taking in hour 7", on any day
 pub winter-7 : (group_in thirty_three 1 0 7 ≡ 25) × (group_in thirty_three 1 1 7 ≡ 25) × (group_in thirty_three 1 0 6 ≡ 25)

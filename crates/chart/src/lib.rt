@@ -92,7 +92,8 @@ impl Table {
 
     // The edition of a number. Exports have the older edition alone.
     fn edition(self, number: u64) -> Result<Edition, OutOfRange>
-        ensures ok { IfOk result (λ e. (in_edition number self ≡ true) × (edition_number e ≡ number)) }
+        ensures ok { IfOk result (λ edition. (in_edition number self ≡ true)
+            × (edition_number edition ≡ number)) }
         ensures err { OnErr result (in_edition number self ≡ false) }
     {
         match (self, number) {
@@ -116,6 +117,7 @@ impl Table {
         requires le_group { (1 ≤ group) × (group ≤ 18) }
         ensures { result ≡ differential_of self bus.number group }
     {
+        // One list, by hand: the paper asks for one constant table of 360, and `published` is that list.
         let place = self.start() + (bus.number - 1) * Table::GROUPS + (group - 1);
         differentials::entry(place)
     }
@@ -175,7 +177,8 @@ impl Time {
 
     #[tactic(auto, using(crate::proofs::Parted::in_day_type, crate::proofs::Parted::no_day_type))]
     fn new(month: u64, day: u64, hour: u64) -> Result<Time, OutOfRange>
-        ensures ok { IfOk result (λ t. (t.month ≡ month) × (day_number t.day ≡ day) × (t.hour ≡ hour)) }
+        ensures ok { IfOk result (λ time. (time.month ≡ month) × (day_number time.day ≡ day)
+            × (time.hour ≡ hour)) }
         ensures err { OnErr result (time_in_range month day hour ≡ false) }
     {
         let day = DayType::try_from(day)?;
@@ -208,7 +211,8 @@ impl Edition {
 
     #[tactic(auto, unfolding(crate::specs::Lookup::answer_in))]
     fn entry(self, table: Table, bus: Bus, time: Time) -> Entry
-        ensures { result ≡ answer_in (edition_number self) table bus.number time.month (day_number time.day) time.hour }
+        ensures { result ≡ answer_in (edition_number self) table bus.number time.month
+            (day_number time.day) time.hour }
     {
         match self {
             Edition::Older => {

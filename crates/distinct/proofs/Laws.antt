@@ -168,32 +168,32 @@ module _ (codes : List ℕ) (n : ℕ) (held : 0 < get_or codes n 0) where
         }
 
 -- ---- the chains of the first n places
-pub record Chained (codes latest links : List ℕ) (n : ℕ) : Type 0 where
+pub record Chained (codes : List ℕ) (latest links : List (Option ℕ)) (n : ℕ) : Type 0 where
   pub buckets : length latest ≡ 256
   pub places : length links ≡ 256
-  pub ends : (bucket : ℕ) → Latest codes bucket n (get_or latest bucket 0)
-  pub linked : Linked codes links n
+  pub ends : (bucket : ℕ) → Latest codes bucket n (counted (get_or latest bucket None))
+  pub linked : Linked codes (map counted links) n
   pub unmet : (k : ℕ) → k < n → 0 < get_or codes k 0 → Unmet codes k
 
-zeros : (n k : ℕ) → get_or {A = ℕ} (replicate n 0) k 0 ≡ 0
-zeros zero k = refl
-zeros (suc n) zero = refl
-zeros (suc n) (suc k) = zeros n k
+nones : (n k : ℕ) → counted (get_or (replicate n None) k None) ≡ 0
+nones zero k = refl
+nones (suc n) zero = refl
+nones (suc n) (suc k) = nones n k
 
 module _ (codes : List ℕ) where
-  pub chains-start : Chained codes (replicate 256 0) (replicate 256 0) 0
-  chains-start =
+  pub chains_start : Chained codes (replicate 256 None) (replicate 256 None) 0
+  chains_start =
       record {
         buckets = refl;
         places = refl;
-        ends = λ b. none codes b _ (zeros 256 b);
+        ends = λ b. none codes b _ (nones 256 b);
         linked = below_none _;
         unmet = below_none _;
       }
 
-  module _ (latest links : List ℕ) (n : ℕ) (c : Chained codes latest links n) where
-    pub chains-pass : get_or codes n 0 ≡ 0 → Chained codes latest links (n + 1)
-    chains-pass z =
+  module _ (latest links : List (Option ℕ)) (n : ℕ) (c : Chained codes latest links n) where
+    pub chains_pass : get_or codes n 0 ≡ 0 → Chained codes latest links (n + 1)
+    chains_pass z =
         record {
           buckets = c.buckets;
           places = c.places;
@@ -202,22 +202,35 @@ module _ (codes : List ℕ) where
           unmet = below_more _ n c.unmet (λ p. absurd (omega arith));
         }
 
-    pub chains-grow : (bucket : ℕ) → n < 256 → bucket ≡ bucket_of (get_or codes n 0) → 0 < get_or codes n 0 → Unmet codes n → Chained codes (set latest bucket (n + 1)) (set links n (get_or latest bucket 0)) (n + 1)
-    chains-grow bucket m b p u =
+    pub chain_ends : (bucket : ℕ) → bucket ≡ bucket_of (get_or codes n 0) → Latest codes (bucket_of (get_or codes n 0)) n (counted (get_or latest bucket None))
+    chain_ends bucket b = rw (← b) (c.ends bucket)
+
+    link_at : (last : Option ℕ) (k : ℕ) → get_or (map counted (set links n last)) k 0 ≡ counted (get_or (set links n last) k None)
+    link_at last k = get_or-map counted (set links n last) k None
+
+    pub chains_grow : (bucket : ℕ) → n < 256 → bucket ≡ bucket_of (get_or codes n 0) → 0 < get_or codes n 0 → Unmet codes n → Chained codes (set latest bucket (Some n)) (set links n (get_or latest bucket None)) (n + 1)
+    chains_grow bucket m b p u =
+        let last = get_or latest bucket None in
         record {
-          buckets = length-set latest bucket (n + 1) ∙ c.buckets;
-          places = length-set links n (get_or latest bucket 0) ∙ c.places;
+          buckets = length-set latest bucket (Some n) ∙ c.buckets;
+          places = length-set links n last ∙ c.places;
           ends = λ h.
               ⊎_elim
               (λ (e : h ≡ bucket).
-              rw (e, get_or-set_same latest bucket (n + 1) 0 (omega (arith, c.buckets)), b) (here codes n p))
+              rw (e, get_or-set_same latest bucket (Some n) None (omega (arith, c.buckets)), b) (here codes n p))
               (λ e.
               rw
-              (get_or-set_other latest bucket h (n + 1) 0 e)
+              (get_or-set_other latest bucket h (Some n) None e)
               (passing codes h n _ (λ f. absurd (e (sym f ∙ sym b))) (c.ends h)))
               (same h bucket);
           linked = below_more _ n
-              (λ k l q. rw (get_or-set_other links n k (get_or latest bucket 0) 0 (λ e. omega arith)) (c.linked k l q))
-              (λ q. rw (get_or-set_same links n (get_or latest bucket 0) 0 (omega (arith, c.places)), ← b) (c.ends bucket));
+              (λ k l q.
+              rw
+              (link_at last k, get_or-set_other links n k last None (λ e. omega arith), ← get_or-map counted links k None)
+              (c.linked k l q))
+              (λ q. rw (link_at last n, get_or-set_same links n last None (omega (arith, c.places)), ← b) (c.ends bucket));
           unmet = below_more _ n c.unmet (λ q. u);
         }
+
+    pub all_met : 256 ≤ n → length codes ≡ 256 → true ≡ all_distinct codes
+    all_met m e = sym (apart-true codes (λ k l. c.unmet k (omega arith)))

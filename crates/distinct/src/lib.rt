@@ -55,6 +55,7 @@ fn met_before(
 }
 
 // Whether no number but 0 stands at two places.
+#[tactic(auto, using(crate::proofs::Laws::chain_ends, crate::proofs::Laws::all_met))]
 pub fn all_distinct(codes: &[u64; PLACES]) -> bool
     ensures { result ≡ all_distinct codes.now }
 {

@@ -1,7 +1,6 @@
 // Books set aside: changed in a field, with their kept totals tampered with, or rebuilt. The turn's message goes to each, and its answer and next book are only
 // looked at.
-ghost use Rattle.std.specs.Prelude.{◌<◌};
-
+use crate::ask::Place;
 use crate::changes::{Change, Field, Tampering};
 use crate::digest::mix;
 use crate::generator::{Choice, draw};
@@ -45,33 +44,23 @@ fn rebuilds(turn: u64) -> bool {
 
 // ---- the books
 
-// The place that is drawn; what is set there may stand as far from the end too.
-fn place(seed: u64) -> usize
-    ensures { result < 256 }
-{
-    (draw(seed, Choice::Day) / 16 % 256) as usize
-}
-
 // Another record at a place, and the kept totals that follow.
-fn set(book: &mut Book, at: usize, r: Record)
-    requires { at < 256 }
-{
-    book.account = changes::followed(book.account, &book.records[at], &r);
-    book.records[at] = r;
+fn set(book: &mut Book, place: Place, r: Record) {
+    book.account = changes::followed(book.account, &book.records[place.at], &r);
+    book.records[place.at] = r;
 }
 
-fn apply(book: &mut Book, edit: Edit, at: usize)
-    requires { at < 256 }
-{
+// A record is set at the place, and one that stands twice as far from the end too.
+fn apply(book: &mut Book, edit: Edit, place: Place) {
     match edit {
         Edit::Tampers(tampering) => book.account = tampering.tampered(book.account),
         Edit::Changes(change) => match change.field {
             Field::Support => book.account = book.account.supported(change.value),
             Field::Twice => {
-                set(book, at, change.record());
-                set(book, 255 - at, change.record());
+                set(book, place, change.record());
+                set(book, place.twin(), change.record());
             }
-            _ => set(book, at, change.record()),
+            _ => set(book, place, change.record()),
         },
     }
 }
@@ -165,7 +154,11 @@ pub(crate) fn probed(book: &Book, tally: &mut Tally, sent: &Sent) {
     let ask = &sent.ask;
     let mut aside = *book;
     let edit = Edit::of(tally.turn);
-    apply(&mut aside, edit, place(tally.seed));
+    apply(
+        &mut aside,
+        edit,
+        Place::of(draw(tally.seed, Choice::Day) / 16),
+    );
     let before = aside.account;
     let mut was_sound = None;
     if rebuilds(tally.turn) {

@@ -105,17 +105,35 @@ pub(crate) struct Standing {
     pub(crate) owed: i64,
 }
 
-// One of the first so many places, or any.
-pub(crate) fn place(seed: u64, open: u64) -> usize
-    ensures { result < 256 }
-{
-    let w = draw(seed, Choice::Place);
-    let place = if w % 2 == 0 {
-        w / 2 % (open % 257 + 1)
-    } else {
-        w / 2
-    };
-    (place % 256) as usize
+// A place of a book.
+#[derive(Clone, Copy)]
+pub(crate) struct Place {
+    pub(crate) at: usize,
+    ghost is_in_book: { at < 256 },
+}
+
+impl Place {
+    // One of all places.
+    pub(crate) fn of(w: u64) -> Place {
+        Place {
+            at: (w % 256) as usize,
+        }
+    }
+
+    // One of the first so many places, or any.
+    pub(crate) fn drawn(seed: u64, open: u64) -> Place {
+        let w = draw(seed, Choice::Place);
+        Place::of(if w % 2 == 0 {
+            w / 2 % open.saturating_add(1)
+        } else {
+            w / 2
+        })
+    }
+
+    // The one that is as far from the end.
+    pub(crate) fn twin(self) -> Place {
+        Place { at: 255 - self.at }
+    }
 }
 
 // The message that takes a record to its next stage; of a free place, open.

@@ -1,5 +1,5 @@
 // What a close lists: the pending bids of its hour, in any order; or all but one of them, one more, those of another hour, or none.
-
+use crate::ask::Place;
 use crate::generator::{Choice, draw, has};
 use crate::values::one_of;
 use crate::{points, values};
@@ -68,7 +68,7 @@ pub(crate) fn pending(
         (0, 1)
     };
     (0..256u64)
-        .map(|i| &book.records[(start.wrapping_add(step.wrapping_mul(i)) % 256) as usize])
+        .map(|i| &book.records[Place::of(start.wrapping_add(step.wrapping_mul(i))).at])
         .filter(|r| is_pending(r, hour))
         .map(|r| r.key.path)
         .collect(alloc)

@@ -1,9 +1,9 @@
 // A run: turn after turn, each on the book that the last one left.
-use crate::ask::Case;
+use crate::ask::{Case, Place};
 use crate::rows::Row;
 use crate::tally::{Tally, Turn};
 use crate::trials::Sent;
-use crate::{asides, ask, questions, report, trials, values};
+use crate::{asides, questions, report, trials, values};
 use book::Book;
 use std::io;
 use std::ops::Range;
@@ -45,7 +45,7 @@ fn turn<R: Print + AllocGlobal>(
 ) -> io::Result<()> {
     let seed = tally.seed;
     let account = book.account;
-    let record = book.records[ask::place(seed, tally.open)];
+    let record = book.records[Place::drawn(seed, tally.open).at];
     let mut sent = Sent::drawn(rt.alloc(), seed, &tally.standing(), book, &record)?;
     let tight = sent.ask.is_tight(seed, &tally.standing());
     if tight {

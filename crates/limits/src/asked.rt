@@ -1,33 +1,10 @@
 // What is asked of the formulas: how a line says it, and what they answer.
 use closings::types::Quote;
 use intervals::types::Intervals;
-use refusals::{BidAnswer, Figure};
+use refusals::Refusal;
 use std::alloc::{AllocError, Global};
 use std::fmt;
 use virtuals::Side;
-
-// The amount, or the number of the refusal.
-fn figure(answer: Figure) -> Result<i64, u64> {
-    match answer {
-        Figure::Cents(cents) => Ok(cents),
-        Figure::Refused(number) => Err(number),
-    }
-}
-
-fn bid(answer: BidAnswer) -> Result<i64, u64> {
-    match answer {
-        BidAnswer::Stands(bid) => Ok(bid.cents),
-        BidAnswer::Refused(number) => Err(number),
-    }
-}
-
-// Of an entry that only refuses, whose amount is 0.
-fn refused(refusal: u64) -> Result<i64, u64> {
-    match refusal {
-        0 => Ok(0),
-        number => Err(number),
-    }
-}
 
 #[derive(Clone, Copy)]
 pub(crate) enum Asked {
@@ -50,36 +27,36 @@ pub(crate) enum Asked {
 }
 
 impl Asked {
-    pub(crate) fn answer(self, alloc: Global) -> Result<Result<i64, u64>, AllocError> {
+    pub(crate) fn answer(self, alloc: Global) -> Result<Result<i64, Refusal>, AllocError> {
         Ok(match self {
             Asked::Bid(kind, quantities, mwh, priced, price, differential) => {
                 let mwh = vec![in alloc; mwh; quantities]?;
                 let prices = vec![in alloc; price; priced]?;
-                bid(bids::bid(kind, &mwh, &prices, differential, false))
+                bids::bid(kind, &mwh, &prices, differential, false).map(|bid| bid.cents)
             }
             Asked::Exposure(quantities, mwh, priced, price) => {
                 let mwh = vec![in alloc; mwh; quantities]?;
                 let prices = vec![in alloc; price; priced]?;
-                figure(bids::price_exposure(&mwh, &prices))
+                bids::price_exposure(&mwh, &prices)
             }
-            Asked::Posted(kind, differential, schedule, price, second) => figure(formulas::posted(
+            Asked::Posted(kind, differential, schedule, price, second) => formulas::posted(
                 kind,
                 differential,
                 false,
                 schedule,
                 price,
                 second,
-            )),
+            ),
             Asked::Finished(kind, schedule, day_ahead, posted, actual, price, second) => {
-                figure(formulas::finished(
+                formulas::finished(
                     kind, false, schedule, day_ahead, posted, actual, price, second,
-                ))
+                )
             }
             Asked::Delivery(kind, mwh, price, second) => {
-                refused(deliveries::delivery_refusal(kind, mwh, price, second))
+                deliveries::check_delivery(kind, mwh, price, second).map(|()| 0)
             }
-            Asked::Billed(amount) => figure(formulas::billed(amount)),
-            Asked::Closed(mwh, others, price, other_prices) => figure(closings::closed(
+            Asked::Billed(amount) => formulas::billed(amount),
+            Asked::Closed(mwh, others, price, other_prices) => closings::closed(
                 Intervals {
                     first: mwh,
                     second: others,
@@ -92,9 +69,9 @@ impl Asked {
                     third: other_prices,
                     fourth: other_prices,
                 },
-            )),
-            Asked::SidesBid(load, supply) => figure(virtuals::bid(load, supply)),
-            Asked::SidesPosted(load, supply) => figure(virtuals::posted(load, supply)),
+            ),
+            Asked::SidesBid(load, supply) => virtuals::bid(load, supply),
+            Asked::SidesPosted(load, supply) => virtuals::posted(load, supply),
         })
     }
 }

@@ -11,7 +11,7 @@ use virtuals::Side;
 fn show<R: Print + AllocGlobal>(rt: &R, asked: Asked) -> io::Result<()> {
     let (refusal, cents) = match asked.answer(rt.alloc())? {
         Ok(cents) => (0, cents),
-        Err(number) => (number, 0),
+        Err(refusal) => (refusal.number(), 0),
     };
     println!(rt; "{asked}: {refusal} {cents}")
 }

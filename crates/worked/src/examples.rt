@@ -1,24 +1,22 @@
 // What each example asks of the library: by its contract, the row of its label in the table of `formulas` (specs/Worked.antt), so that the
 // program prints what the theorem is about.
 ghost use Rattle.std.specs.Prelude.{◌≡◌};
+ghost use Rattle.refusals.specs.Refusals.{verdict_of};
 ghost use Rattle.formulas.specs.Worked.{Ask, answer, asked};
 
 use kinds::Kind;
-use refusals::{BidAnswer, Figure};
+use refusals::Refusal;
 
 // The requirement of a bid alone, or its refusal.
-fn bid(kind: u64, mwh: &[u64], prices: &[i64], differential: u64) -> Figure
-    ensures { result ≡ answer (Ask.bid kind mwh.now prices.now differential) }
+fn bid(kind: u64, mwh: &[u64], prices: &[i64], differential: u64) -> Result<i64, Refusal>
+    ensures { verdict_of result ≡ answer (Ask.bid kind mwh.now prices.now differential) }
 {
-    match bids::bid(kind, mwh, prices, differential, false) {
-        BidAnswer::Stands(bid) => Figure::Cents(bid.cents),
-        BidAnswer::Refused(number) => Figure::Refused(number),
-    }
+    Ok(bids::bid(kind, mwh, prices, differential, false)?.cents)
 }
 
 // Past the labels of the table a bid of no kind, which is refused.
-pub(crate) fn example(label: u64) -> Figure
-    ensures { result ≡ answer (asked label) }
+pub(crate) fn example(label: u64) -> Result<i64, Refusal>
+    ensures { verdict_of result ≡ answer (asked label) }
 {
     match label {
         1 => bid(Kind::IMPORT, &[27, 61, 100], &[4_600, 5_500, 5_800], 6_000),

@@ -9,7 +9,7 @@ use Rattle.kinds.specs.Kinds.{kind_row}
 use Rattle.kinds.proofs.Fits.{differential-small}
 use Rattle.bids.specs.Rows.{bid_rows}
 use Rattle.bids.specs.Entries.{bid_verdict}
-use Rattle.bids.proofs.Curves.{bid-passed}
+use Rattle.bids.proofs.Curves.{fit, bid-passed}
 use Rattle.bids.proofs.bids.bid.Goals as goal
 
 pub returns-in_err-check_bid : goal.returns-in_err-check_bid
@@ -18,14 +18,13 @@ returns-in_err-check_bid c =
     let s = c.args in
     handed_on _ c.in_err-check_bid.field-0.0 (search rules) ∙ refused_too (kind_row s.kind ∷ bid_rows s.kind s.mwh.now s.prices.now s.differential) _ (tt {0}) _ c.in_err-check_bid.ensures
 
-pub bid_mwh-requires : goal.bid_mwh-requires
-bid_mwh-requires c = let s = c.args in (bid-passed s.kind s.mwh.now s.prices.now s.differential c.in_ok-check_bid.ensures).0
+pub invariant_of-points : goal.invariant_of-points
+invariant_of-points c = let s = c.args in record { fit = fit (bid-passed s.kind s.mwh.now s.prices.now s.differential c.in_ok-check_bid.ensures).0 }
 
 pub bid_requirement-requires : goal.bid_requirement-requires
 bid_requirement-requires c =
     let s = c.args in
-    let b = bid-passed s.kind s.mwh.now s.prices.now s.differential c.in_ok-check_bid.ensures in
-    (b.0, le-leb s.differential 1000000 (differential-small s.kind s.differential b.1))
+    le-leb s.differential 1000000 (differential-small s.kind s.differential (bid-passed s.kind s.mwh.now s.prices.now s.differential c.in_ok-check_bid.ensures).1)
 
 pub returns : goal.returns
 unfolding bid_verdict

@@ -1,12 +1,8 @@
 -- `bids::check_bid`: the rows of the kind and of one curve, those of the points, and that of the differential.
 use mathlib.Core.Path.{refl, ◌∙◌, sym}
-use mathlib.Core.Bool.{not}
-use mathlib.Core.List.{[], ◌∷◌}
 use Rattle.std.proofs.Common.{rules}
-use Rattle.refusals.specs.Refusals.{judge}
 use Rattle.refusals.specs.declared.Refusal.TheVariants.{Differential}
 use Rattle.refusals.proofs.Laws.{handed_on, stopped, passed, row_passed, row_answered}
-use Rattle.kinds.specs.Kinds.{rules_of, differential_fits}
 use Rattle.bids.specs.Rows.{point_rows, bid_rows}
 use Rattle.bids.proofs.Curves.{point-rows-numbered}
 use Rattle.bids.proofs.bids.check_bid.Goals as goal
