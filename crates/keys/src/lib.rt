@@ -10,7 +10,7 @@ use kinds::Kind;
 use refusals::{Refusal, refuse_if};
 
 // A transaction is known by its key; all bids of one key are one group.
-#[derive(Clone, Copy, PartialEq, Eq, Debug)]
+#[derive(Clone, Copy, PartialEq, Eq, Debug, Default)]
 pub struct Key {
     pub kind: u64,
     pub path: u64,
