@@ -19,7 +19,7 @@ impl Counts {
 }
 
 // The MWh of each interval.
-#[derive(Clone, Copy, PartialEq, Eq, Debug)]
+#[derive(Clone, Copy, PartialEq, Eq, Debug, Default)]
 pub struct Intervals {
     pub first: u64,
     pub second: u64,
@@ -31,26 +31,20 @@ impl Intervals {
     pub fn none() -> Intervals
         ensures { result ≡ no_intervals }
     {
-        Intervals {
-            first: 0,
-            second: 0,
-            third: 0,
-            fourth: 0,
-        }
+        Intervals::default()
     }
 
     pub fn in_range(self) -> bool
         ensures { result ≡ intervals_fit self }
     {
-        (self.first <= Quantity::MAX)
-            & (self.second <= Quantity::MAX)
-            & (self.third <= Quantity::MAX)
-            & (self.fourth <= Quantity::MAX)
+        [self.first, self.second, self.third, self.fourth]
+            .iter()
+            .all(|&mwh| Quantity { mwh }.in_range())
     }
 
     pub fn is_none(self) -> bool
         ensures { result ≡ is_none self }
     {
-        (self.first == 0) & (self.second == 0) & (self.third == 0) & (self.fourth == 0)
+        self == Intervals::none()
     }
 }

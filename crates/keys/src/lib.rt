@@ -10,7 +10,7 @@ use kinds::Kind;
 use refusals::{Refusal, refuse_if};
 
 // A transaction is known by its key; all bids of one key are one group.
-#[derive(Clone, Copy, PartialEq, Eq, Debug)]
+#[derive(Clone, Copy, PartialEq, Eq, Debug, Default)]
 pub struct Key {
     pub kind: u64,
     pub path: u64,
@@ -20,10 +20,11 @@ pub struct Key {
 impl Key {
     pub const MAX_HOUR: u64 = 999_999;
 
+    #[tactic(auto, unfolding(crate::specs::Keys::same_key))]
     pub fn same(self, other: Key) -> bool
         ensures { result ≡ same_key self other }
     {
-        (self.kind == other.kind) & (self.path == other.path) & (self.hour == other.hour)
+        self == other
     }
 
     fn kind_fits(self) -> bool

@@ -6,7 +6,7 @@ ghost use Rattle.kinds.specs.Kinds.{is_kind, is_path, has_stage, has_one_curve, 
 
 use amounts::{Amount, Differential, Price, Quantity};
 
-// How far a transaction has come; 0 is a free place.
+// How far a transaction has come; 0 is a free place. No enum, since a record's stage may be any number that a caller writes.
 #[derive(Clone, Copy)]
 pub struct Stage {
     pub number: u64,
@@ -51,6 +51,7 @@ pub struct Rules {
     pub sides: bool,
 }
 
+// No enum, since a key's kind may be any number that a caller writes: each has its row.
 #[derive(Clone, Copy)]
 pub struct Kind {
     pub number: u64,
@@ -76,34 +77,31 @@ impl Kind {
     // Zones A to K.
     pub const MAX_ZONE: u64 = 11;
     // A curve's largest point counts, so its limit is a point's; a side's is the same.
-    pub const MAX_LARGEST: u64 = 10_000;
+    pub const MAX_LARGEST: u64 = Quantity::MAX_POINT;
 
     pub fn in_range(self) -> bool
         ensures { result ≡ is_kind self.number }
     {
-        (Kind::IMPORT <= self.number) & (self.number <= Kind::LAST)
+        (Kind::IMPORT..=Kind::LAST).contains(&self.number)
     }
 
     // The table.
+    #[tactic(auto, unfolding(crate::specs::Kinds::rules_of, crate::specs::Kinds::by_kind))]
     pub fn rules(self) -> Rules
         ensures { result ≡ rules_of self.number }
     {
-        let number = self.number;
-        match number {
+        match self.number {
             Kind::IMPORT => Rules {
                 paths: Kind::MAX_PATH,
-                adds: false,
                 mwh: Kind::MAX_LARGEST,
                 cents: Amount::MAX_BID,
                 differential: Differential::MAX,
                 exempts: true,
-                prices: 1,
                 dayahead: true,
                 posted: Stage::BID,
                 finished: Stage::POSTED,
                 billed: Stage::FINISHED,
-                intervals: false,
-                sides: false,
+                ..Rules::OF_NO_KIND
             },
             Kind::EXPORT => Rules {
                 paths: Kind::MAX_PATH,
@@ -111,90 +109,49 @@ impl Kind {
                 mwh: Quantity::MAX,
                 cents: Amount::MAX_BID,
                 differential: Differential::MAX,
-                exempts: false,
-                prices: 1,
-                dayahead: false,
                 posted: Stage::BID,
                 finished: Stage::POSTED,
                 billed: Stage::FINISHED,
-                intervals: false,
-                sides: false,
+                ..Rules::OF_NO_KIND
             },
             Kind::HOUR_AHEAD_EXPORT => Rules {
                 paths: Kind::MAX_PATH,
                 adds: true,
                 mwh: Quantity::MAX,
                 cents: Amount::MAX_BID,
-                differential: 0,
-                exempts: false,
-                prices: 1,
-                dayahead: false,
-                posted: Rules::NEVER,
                 finished: Stage::BID,
                 billed: Stage::FINISHED,
-                intervals: false,
-                sides: false,
+                ..Rules::OF_NO_KIND
             },
             Kind::WHEEL => Rules {
                 paths: Kind::MAX_PATH,
-                adds: false,
                 mwh: Kind::MAX_LARGEST,
                 cents: Amount::MAX_WHEEL,
-                differential: 0,
-                exempts: false,
                 prices: 2,
-                dayahead: false,
                 posted: Stage::BID,
                 finished: Stage::POSTED,
                 billed: Stage::FINISHED,
-                intervals: false,
-                sides: false,
+                ..Rules::OF_NO_KIND
             },
             Kind::QUARTER_HOUR_EXPORT => Rules {
                 paths: Kind::MAX_PATH,
                 adds: true,
-                mwh: 0,
                 cents: Amount::MAX_BID,
-                differential: 0,
-                exempts: false,
-                prices: 1,
-                dayahead: false,
-                posted: Rules::NEVER,
                 finished: Stage::POSTED,
                 billed: Stage::FINISHED,
                 intervals: true,
-                sides: false,
+                ..Rules::OF_NO_KIND
             },
             Kind::VIRTUAL => Rules {
                 paths: Kind::MAX_ZONE,
-                adds: false,
                 mwh: Kind::MAX_LARGEST,
                 cents: Amount::MAX_BID,
                 differential: Differential::MAX,
-                exempts: false,
-                prices: 1,
-                dayahead: false,
-                posted: Rules::NEVER,
-                finished: Rules::NEVER,
                 billed: Stage::POSTED,
-                intervals: false,
                 sides: true,
+                ..Rules::OF_NO_KIND
             },
-            _ => Rules {
-                paths: 0,
-                adds: false,
-                mwh: 0,
-                cents: 0,
-                differential: 0,
-                exempts: false,
-                prices: 1,
-                dayahead: false,
-                posted: Rules::NEVER,
-                finished: Rules::NEVER,
-                billed: Rules::NEVER,
-                intervals: false,
-                sides: false,
-            },
+            _ => Rules::OF_NO_KIND,
         }
     }
 }
@@ -203,20 +160,38 @@ impl Rules {
     // No open transaction stands at stage 0.
     pub const NEVER: u64 = 0;
 
+    // What a kind's row does not name is as here: no path, no stage and no limit above 0.
+    const OF_NO_KIND: Rules = Rules {
+        paths: 0,
+        adds: false,
+        mwh: 0,
+        cents: 0,
+        differential: 0,
+        exempts: false,
+        prices: 1,
+        dayahead: false,
+        posted: Rules::NEVER,
+        finished: Rules::NEVER,
+        billed: Rules::NEVER,
+        intervals: false,
+        sides: false,
+    };
+
     pub fn is_path(self, path: u64) -> bool
         ensures { result ≡ is_path self path }
     {
-        (1 <= path) & (path <= self.paths)
+        (1..=self.paths).contains(&path)
     }
 
     // A transaction may stand at this stage.
     pub fn has_stage(self, stage: u64) -> bool
         ensures { result ≡ has_stage self stage }
     {
-        ((Stage::BID <= stage) & (stage <= Stage::BILLED))
-            & (!(stage == Stage::POSTED)
-                | ((self.finished == Stage::POSTED) | (self.billed == Stage::POSTED)))
-            & (!(stage == Stage::FINISHED) | (self.billed == Stage::FINISHED))
+        (Stage::BID..=Stage::BILLED).contains(&stage)
+            & ((stage != Stage::POSTED)
+                | (self.finished == Stage::POSTED)
+                | (self.billed == Stage::POSTED))
+            & ((stage != Stage::FINISHED) | (self.billed == Stage::FINISHED))
     }
 
     // A bid has one curve of points.
@@ -230,7 +205,7 @@ impl Rules {
     pub fn is_scheduled(self) -> bool
         ensures { result ≡ is_scheduled self }
     {
-        !(self.posted == Rules::NEVER) | self.sides
+        (self.posted != Rules::NEVER) | self.sides
     }
 
     pub fn differential_fits(self, differential: u64) -> bool
@@ -249,7 +224,7 @@ impl Rules {
     pub fn pending_fits(self, cents: i64) -> bool
         ensures { result ≡ pending_fits self cents }
     {
-        (0 <= cents) & (cents <= self.cents)
+        (0..=self.cents).contains(&cents)
     }
 
     pub fn prices_fit(self, price: i64, second: i64) -> bool
@@ -261,6 +236,7 @@ impl Rules {
     }
 }
 
+#[tactic(auto, unfolding(crate::specs::Kinds::unless_exempt))]
 pub fn unless_exempt(exempt: bool, cents: i64) -> i64
     ensures { result ≡ unless_exempt exempt cents }
 {

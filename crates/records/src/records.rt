@@ -1,5 +1,5 @@
 // One record: how it is made, and the tests, straight-line expressions, clause by clause as document 01 lists them.
-ghost use Rattle.std.specs.Prelude.{◌≡◌};
+ghost use Rattle.std.specs.Prelude.{◌≡◌, false};
 ghost use Rattle.kinds.specs.Kinds.{rules_of};
 ghost use Rattle.records.specs.Records.{blank, bid_record, pending_record, sides_record, advanced, sides_posted, is_blank, is_free, at, is_pending};
 ghost use Rattle.records.specs.Records.{schedule_fits, day_ahead_fits, exempt_fits, requirement_fits, quarters_fit, sides_fit, keeps, ok_record, ok_place};
@@ -14,9 +14,9 @@ use virtuals::{Side, Supply};
 fn requirement_fits(rules: Rules, stage: u64, cents: i64) -> bool
     ensures { result ≡ requirement_fits rules stage cents }
 {
-    (!(stage <= Stage::POSTED) | rules.pending_fits(cents))
-        & (!(stage == Stage::FINISHED) | Amount { cents }.is_finished())
-        & (!(stage == Stage::BILLED) | Amount { cents }.is_bill())
+    ((Stage::POSTED < stage) | rules.pending_fits(cents))
+        & ((stage != Stage::FINISHED) | Amount { cents }.is_finished())
+        & ((stage != Stage::BILLED) | Amount { cents }.is_bill())
 }
 
 impl Record {
@@ -24,94 +24,80 @@ impl Record {
     pub fn blank() -> Self
         ensures { result ≡ blank }
     {
+        Record::default()
+    }
+
+    // At stage 1; what it does not set is a free place's.
+    fn opened(key: Key, requirement: i64) -> Self
+        ensures { result ≡ bid_record key 0 0 false requirement }
+    {
         Record {
-            key: Key {
-                kind: 0,
-                path: 0,
-                hour: 0,
-            },
-            stage: Stage::FREE,
-            mwh: 0,
-            differential: 0,
-            exempt: false,
-            schedule: 0,
-            price: 0,
-            requirement: 0,
-            intervals: Intervals {
-                first: 0,
-                second: 0,
-                third: 0,
-                fourth: 0,
-            },
-            supply: Supply {
-                mwh: 0,
-                differential: 0,
-                schedule: 0,
-            },
+            key,
+            stage: Stage::BID,
+            requirement,
+            ..Record::blank()
         }
     }
 
-    // A bid; what it does not set is a free place's.
     pub fn bid(key: Key, mwh: u64, differential: u64, exempt: bool, requirement: i64) -> Self
         ensures { result ≡ bid_record key mwh differential exempt requirement }
     {
-        let mut made = Record::blank();
-        made.key = key;
-        made.stage = Stage::BID;
-        made.mwh = mwh;
-        made.differential = differential;
-        made.exempt = exempt;
-        made.requirement = requirement;
-        made
+        Record {
+            mwh,
+            differential,
+            exempt,
+            ..Record::opened(key, requirement)
+        }
     }
 
     // A fifteen-minute bid, until its hour is closed.
     pub fn pending(key: Key, intervals: Intervals) -> Self
         ensures { result ≡ pending_record key intervals }
     {
-        let mut opened = Record::blank();
-        opened.key = key;
-        opened.stage = Stage::BID;
-        opened.intervals = intervals;
-        opened
+        Record {
+            intervals,
+            ..Record::opened(key, 0)
+        }
     }
 
     // A virtual bid: its load side in the fields of other bids, its supply side beside them.
     pub fn sides(key: Key, load: Side, supply: Side, requirement: i64) -> Self
         ensures { result ≡ sides_record key load supply requirement }
     {
-        let side = Supply {
-            mwh: supply.mwh,
-            differential: supply.differential,
-            schedule: 0,
-        };
-        let mut made = Record::bid(key, load.mwh, load.differential, false, requirement);
-        made.supply = side;
-        made
+        Record {
+            supply: Supply {
+                mwh: supply.mwh,
+                differential: supply.differential,
+                schedule: 0,
+            },
+            ..Record::bid(key, load.mwh, load.differential, false, requirement)
+        }
     }
 
     // Taken on to a later stage, which sets no other field.
     pub fn advanced(self, stage: u64, schedule: u64, price: i64, requirement: i64) -> Self
         ensures { result ≡ advanced self stage schedule price requirement }
     {
-        let mut next = self;
-        next.stage = stage;
-        next.schedule = schedule;
-        next.price = price;
-        next.requirement = requirement;
-        next
+        Record {
+            stage,
+            schedule,
+            price,
+            requirement,
+            ..self
+        }
     }
 
     // A virtual bid once posted: the MWh of each side.
     pub fn sides_posted(self, load: u64, supply: u64, requirement: i64) -> Self
         ensures { result ≡ sides_posted self load supply requirement }
     {
-        let mut next = self;
-        next.stage = Stage::POSTED;
-        next.schedule = load;
-        next.requirement = requirement;
-        next.supply.schedule = supply;
-        next
+        Record {
+            supply: Supply {
+                schedule: supply,
+                ..self.supply
+            },
+            ..self.advanced(Stage::POSTED, load, self.price, requirement)
+        }
     }
 
     pub fn is_blank(self) -> bool
@@ -125,12 +111,13 @@ impl Record {
             & (self.differential == 0)
             & !self.exempt
             & (self.schedule == 0)
-            & ((0 <= self.price) & (self.price <= 0))
-            & ((0 <= self.requirement) & (self.requirement <= 0))
+            & (self.price == 0)
+            & (self.requirement == 0)
             & self.intervals.is_none()
             & self.supply.is_none()
     }
 
+    #[tactic(auto, unfolding(crate::specs::Records::is_free))]
     pub fn is_free(self) -> bool
         ensures { result ≡ is_free self }
     {
@@ -138,6 +125,7 @@ impl Record {
     }
 
     // Stands open under this key.
+    #[tactic(auto, unfolding(crate::specs::Records::at))]
     pub fn is_at(self, key: Key) -> bool
         ensures { result ≡ at key self }
     {
@@ -145,6 +133,7 @@ impl Record {
     }
 
     // A fifteen-minute bid of this hour, which is not closed yet.
+    #[tactic(auto, unfolding(crate::specs::Records::is_pending))]
     pub fn is_pending(self, hour: u64) -> bool
         ensures { result ≡ is_pending hour self }
     {
@@ -165,8 +154,7 @@ impl Record {
         ensures { result ≡ day_ahead_fits rules self }
     {
         Price { cents: self.price }.in_range()
-            & ((rules.dayahead & (Stage::POSTED <= self.stage))
-                | Price { cents: self.price }.is_nil())
+            & ((rules.dayahead & (Stage::POSTED <= self.stage)) | (self.price == 0))
     }
 
     fn exempt_fits(self, rules: Rules) -> bool
@@ -181,11 +169,7 @@ impl Record {
     {
         let sums = self.intervals;
         ((rules.intervals & sums.in_range()) | sums.is_none())
-            & (!(rules.intervals & (self.stage == Stage::BID))
-                | Price {
-                    cents: self.requirement,
-                }
-                .is_nil())
+            & (!(rules.intervals & (self.stage == Stage::BID)) | (self.requirement == 0))
     }
 
     // A supply side where the kind has two, and none of it posted at stage 1.
@@ -194,7 +178,7 @@ impl Record {
     {
         let side = self.supply;
         ((rules.sides & side.in_range()) | side.is_none())
-            & (!(self.stage == Stage::BID) | (side.schedule == 0))
+            & ((self.stage != Stage::BID) | (side.schedule == 0))
     }
 
     // Every clause of soundness but the key's.
@@ -219,6 +203,7 @@ impl Record {
     }
 
     // An open record that keeps every clause of soundness.
+    #[tactic(auto, unfolding(crate::specs::Records::ok_record))]
     pub fn in_range(self) -> bool
         ensures { result ≡ ok_record self }
     {
@@ -227,8 +212,7 @@ impl Record {
         }
         // `keeps_row_of(kind)`, arm by arm: with a row that it knows the compiler drops the tests that the row decides, and a message to a full book
         // takes 39,595 instructions, and not 56,929 (docs/SPEED.md).
-        let kind = self.key.kind;
-        match kind {
+        match self.key.kind {
             Kind::IMPORT => self.keeps_row_of(Kind::IMPORT),
             Kind::EXPORT => self.keeps_row_of(Kind::EXPORT),
             Kind::HOUR_AHEAD_EXPORT => self.keeps_row_of(Kind::HOUR_AHEAD_EXPORT),
@@ -240,6 +224,7 @@ impl Record {
     }
 
     // A place of a sound book: free and zero, or a record that keeps every clause.
+    #[tactic(auto, using(crate::proofs::Places::free_place, crate::proofs::Places::used_place))]
     pub fn is_sound(self) -> bool
         ensures { result ≡ ok_place self }
     {

@@ -4,7 +4,7 @@ use keys::Key;
 use virtuals::Supply;
 
 // One place of the book. A free place is zero throughout.
-#[derive(Clone, Copy, PartialEq, Eq, Debug)]
+#[derive(Clone, Copy, PartialEq, Eq, Debug, Default)]
 pub struct Record {
     pub key: Key,
     pub stage: u64,

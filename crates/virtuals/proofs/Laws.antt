@@ -1,19 +1,19 @@
 -- The two sides that no row refuses; what an entry answers; and that posting never asks for more than the bid did.
 -- Assumes nothing.
-use mathlib.Core.Path.{◌≡◌, refl, sym, ap, ◌∙◌}
+use mathlib.Core.Path.{◌≡◌, refl}
 use mathlib.Core.Bool.{Bool, true, false, cond, ◌&&◌}
 use Prim.Native.Nat.{ℕ, ◌-◌, ◌*◌, ◌≤◌, ◌<◌}
 use native.Mathlib.Nat.{zero-mul, le_trans, le_refl}
 use native.Mathlib.Omega.{arith}
-use borrow.Author.Tests.{lt-ltb, le-ltb, ltb-true, ltb-false, eqb-true, eqb-false, leb-true, not-false}
+use borrow.Author.Tests.{lt-ltb, le-ltb, ltb-true, ltb-false, eqb-true, leb-true, not-false}
 use lib.Dec.{ltb, eqb}
 use lib.IntN.{pos}
 use lib.Signed.{◌≤ℤ◌}
 use Rattle.amounts.specs.Amount.{Range}
 use Rattle.amounts.specs.Limits.{is_differential}
 use Rattle.amounts.proofs.Signed.{signed, larger-of, mul_mono, tested}
-use Rattle.refusals.specs.Refusals.{first, None, judge, accept}
-use Rattle.refusals.proofs.Laws.{numbered, and_left, and_right, none-applies, judge-none, answered-some}
+use Rattle.refusals.specs.Refusals.{None, accept}
+use Rattle.refusals.proofs.Laws.{numbered, and_left, and_right, judge-none}
 use Rattle.virtuals.specs.Virtuals.{Side, Supply, no_supply, is_no_supply, is_side_mwh, side_rows, mwh_rows, virtual_bid, virtual_posted, bid_verdict, posted_verdict, PostedOf, PostingAsksNoMore}
 
 module _ (load supply : Side) where
