@@ -1,14 +1,12 @@
 -- What the walk of `Book::apply` has seen of the places from i on, and in the end of all of them.
 -- Assumes nothing.
-use mathlib.Core.Path.{◌≡◌, refl, sym, ap, ◌∙◌, subst}
-use mathlib.Core.Bool.{Bool, true, false, ◌&&◌, cond}
+use mathlib.Core.Path.{◌≡◌, sym, ap, ◌∙◌, subst}
+use mathlib.Core.Bool.{true, false, ◌&&◌}
 use mathlib.Core.List.{List, [], map}
-use Prim.Native.Nat.{ℕ, ◌+◌, ◌-◌, ◌<◌, ◌≤◌}
+use Prim.Native.Nat.{ℕ, ◌-◌, ◌<◌, ◌≤◌}
 use native.Mathlib.Omega.{arith}
-use lib.Dec.{ltb}
-use lib.ListN.{length, drop, get_or, set, length-set, length-drop, get_or-eq_default}
+use lib.ListN.{length, drop, get_or, set, length-set, length-drop}
 use lib.Seq.{drop-length}
-use borrow.Author.Tests.{ltb-true, ltb-false}
 use Rattle.amounts.specs.Lists.{sum, every}
 use Rattle.keys.specs.declared.Key.{Key}
 use Rattle.records.specs.declared.types.Record.{Record}
@@ -19,9 +17,9 @@ use Rattle.credit.specs.NoOverflow.{SumsWithin}
 use Rattle.book.specs.Books.{Book, lookup}
 use Rattle.walk.specs.Codes.{code_of}
 use Rattle.walk.specs.declared.types.Walk.{Walk}
-use Rattle.walk.specs.Walk.{nothing, more}
+use Rattle.walk.specs.Walk.{nothing, more, standing, under}
 use Rattle.walk.proofs.Sums.{sums-within, sums-back, every_back, every_drop}
-use Rattle.book.proofs.Passed.{index, index_back, find-get, set_back, mapped}
+use Rattle.book.proofs.Passed.{position, from, from-start, position_back, find-standing, set_back, mapped}
 use Rattle.book.proofs.Codes.{code-blank}
 
 -- all are in range; their sums, their keys' numbers, the lowest free place and the key's
@@ -31,12 +29,12 @@ pub record Walked (key : Key) (rs : List Record) (codes : List ℕ) (s : Walk) (
   pub ranged : every ok_place (drop i rs) ≡ true
   pub coded : (k : ℕ) → i ≤ k → k < length codes → get_or codes k 0 ≡ code_of (get_or rs k blank)
   pub sums : s.sums ≡ sums_of (drop i rs)
-  pub free : s.free ≡ i + index is_free (drop i rs)
-  pub place : s.at ≡ i + index (at key) (drop i rs)
+  pub free : s.free ≡ from i (position is_free (drop i rs))
+  pub place : s.at ≡ from i (position (at key) (drop i rs))
 
 -- no place is passed yet
 pub begun : (key : Key) (rs : List Record) (codes : List ℕ) → length rs ≡ 256 → length codes ≡ 256 → Walked key rs codes nothing 256
-unfolding every index sum
+unfolding every position sum
 begun key rs codes few count =
     let none : [] ≡ drop 256 rs = sym (drop-length rs) ∙ ap (λ (n : ℕ). drop n rs) few in
     record {
@@ -45,8 +43,8 @@ begun key rs codes few count =
       ranged = ap (every ok_place) (sym none);
       coded = λ k from to. absurd (omega arith);
       sums = ap sums_of none;
-      free = ap (λ (l : List Record). 256 + index is_free l) none;
-      place = ap (λ (l : List Record). 256 + index (at key) l) none;
+      free = ap (λ (l : List Record). from 256 (position is_free l)) none;
+      place = ap (λ (l : List Record). from 256 (position (at key) l)) none;
     }
 
 -- no sum leaves an i64 on the way
@@ -85,8 +83,8 @@ module _ (key : Key) (rs : List Record) (codes : List ℕ) (s : Walk) (i n : ℕ
         ranged = all_of ∙ rw (fine, w.ranged);
         coded = coded-more;
         sums = ap (λ (t : Sums). with_record t here) w.sums ∙ sums-back rs i h le;
-        free = index_back is_free rs i blank h le s.free w.free;
-        place = index_back (at key) rs i blank h le s.at w.place;
+        free = position_back is_free rs i blank h le s.free w.free;
+        place = position_back (at key) rs i blank h le s.at w.place;
       }
 
 -- every place is passed
@@ -97,21 +95,16 @@ module _ (b : Book) (key : Key) (codes : List ℕ) (s : Walk) (few : length b.re
   pub all_coded : codes ≡ map code_of b.records
   all_coded = mapped code_of blank b.records codes code-blank (w.count ∙ sym few) (λ k lt. w.coded k (omega arith) (omega (arith, w.count, few)))
 
-  pub free-is : s.free ≡ index is_free b.records
-  free-is = omega (arith, w.free)
+  pub free-is : s.free ≡ position is_free b.records
+  free-is = w.free ∙ from-start (position is_free b.records)
 
-  pub place_is : s.at ≡ index (at key) b.records
-  place_is = omega (arith, w.place)
+  pub place_is : s.at ≡ position (at key) b.records
+  place_is = w.place ∙ from-start (position (at key) b.records)
 
   pub summed : s.sums ≡ sums_of b.records
   summed = w.sums
 
-  looked-by : (t : Bool) → ltb s.at 256 ≡ t → (there : Record) → (s.at < 256 → there ≡ get_or b.records s.at blank) → cond t there blank ≡ get_or b.records s.at blank
-  looked-by true h there q = q (ltb-true s.at 256 h)
-  looked-by false h there q = sym (get_or-eq_default b.records blank (omega (arith, few, ltb-false s.at 256 h)))
-
   -- the record under the key is what stands at its place, if it has one
-  pub looked-up : (there : Record) → (s.at < 256 → there ≡ get_or b.records s.at blank) → cond (ltb s.at 256) there blank ≡ lookup b key
+  pub looked-up : under s b.records ≡ lookup b key
   unfolding lookup
-  looked-up there q =
-      looked-by (ltb s.at 256) refl there q ∙ ap (λ (n : ℕ). get_or b.records n blank) place_is ∙ sym (find-get (at key) blank b.records)
+  looked-up = ap (standing b.records) place_is ∙ sym (find-standing (at key) b.records)

@@ -4,12 +4,10 @@ use mathlib.Core.Path.{◌≡◌, refl, sym, ap, ◌∙◌, subst}
 use mathlib.Core.Bool.{Bool, true, false, cond}
 use mathlib.Core.List.{List}
 use mathlib.Core.Logic.{⊎_elim}
-use Prim.Native.Nat.{ℕ, ◌≤◌}
+use Prim.Native.Nat.{ℕ, ◌<◌}
 use native.Mathlib.Omega.{arith}
-use lib.Dec.{eqb}
 use lib.IntN.{ℤ, pos, ◌+ℤ◌, ◌-ℤ◌}
 use lib.ListN.{length, set}
-use lib.Seq.{set_out}
 use Rattle.amounts.specs.Lists.{total}
 use Rattle.amounts.specs.Amount.{Within}
 use Rattle.amounts.proofs.Signed.{signed, sum_of, difference-of}
@@ -20,7 +18,7 @@ use Rattle.messages.specs.declared.types.Change.{Change}
 use Rattle.messages.specs.declared.types.Change.TheVariants.{Add, Rebid, Advance, Remove, AddPending}
 use Rattle.messages.specs.declared.types.Deed.{Deed}
 use Rattle.messages.specs.declared.types.Deed.TheVariants.{Keyed, SetSupport, CloseHour}
-use Rattle.std.specs.Prelude.{Result, Ok, Err}
+use Rattle.std.specs.Prelude.{Result, Ok, Err, Option, Some, None as Without, is_none}
 use Rattle.refusals.specs.declared.Refusal.{Refusal}
 use Rattle.keys.specs.declared.Key.{Key}
 use Rattle.records.specs.declared.types.Record.{Record}
@@ -45,8 +43,10 @@ use Rattle.refusals.specs.declared.Answer.TheVariants.{Accepted, Refused}
 use Rattle.book.specs.Step.{Outcome, change, rebook, done, answer_to, outcome, step}
 use Rattle.endings.specs.declared.types.View.{View}
 use Rattle.endings.specs.declared.types.Ending.{Ending}
-use Rattle.endings.specs.Endings.{DeedSound, PlanSound, Summable, totals_of, credit_verdict, pass, unsound, turned_away, put_in, carried_out, ending_of, ended}
-use Rattle.book.proofs.Passed.{index, swap-set, missing-index}
+use Rattle.endings.specs.declared.types.Left.{Left}
+use Rattle.endings.specs.declared.types.Left.TheVariants.{Nothing, Put, Batch}
+use Rattle.endings.specs.Endings.{DeedSound, PlanSound, Summable, totals_of, credit_verdict, pass, unsound, turned_away, put_at, put_in, carried_out, ending_of, ended}
+use Rattle.book.proofs.Passed.{position, Inside, stored, swap-stored, missing-position, inside}
 use Rattle.walk.proofs.Sums.{sums-within}
 use Rattle.book.proofs.Sums.{held_by}
 use Rattle.book.proofs.Effect.{weight}
@@ -68,17 +68,53 @@ totals-small b h e =
 -- what a message sees of a book whose places are in range
 pub record Sees (b : Book) (k : Key) (s : View) : Type 0 where
   pub sums : s.sums ≡ sums_of b.records
-  pub lowest : s.free ≡ index is_free b.records
-  pub place : s.at ≡ index (at k) b.records
+  pub lowest : s.free ≡ position is_free b.records
+  pub place : s.at ≡ position (at k) b.records
   pub under : s.old ≡ lookup b k
 
--- the book after an ending, and the answer; past the last place nothing is written
-abbrev pub written : Book → Ending → Outcome
-written b e = record { book = record { records = set b.records e.place e.new; account = e.account }; answer = e.answer }
+-- the places, once what is left to them is written; a batch is not written here
+abbrev pub placed : List Record → Left → List Record
+placed rs Nothing = rs
+placed rs (Put place new) = set rs place new
+placed rs (Batch hour) = rs
 
--- no batch is left at the hour past the last one
-beyond : 1000000 ≤ 999999 → ⊥
-beyond h = omega arith
+-- the book after an ending, and the answer
+abbrev pub written : Book → Ending → Outcome
+written b e = record { book = record { records = placed b.records e.left; account = e.account }; answer = e.answer }
+
+-- of the hour whose batch is left, if one is
+abbrev pub OfBatch : (ℕ → Type 0) → Left → Type 0
+OfBatch P Nothing = Unit {0}
+OfBatch P (Put place new) = Unit {0}
+OfBatch P (Batch hour) = P hour
+
+abbrev pub NoBatch : Left → Type 0
+NoBatch l = OfBatch (λ (hour : ℕ). ⊥) l
+
+batch-too : (P Q : ℕ → Type 0) → ((hour : ℕ) → P hour → Q hour) → (l : Left) → OfBatch P l → OfBatch Q l
+batch-too P Q f Nothing q = tt
+batch-too P Q f (Put place new) q = tt
+batch-too P Q f (Batch hour) q = f hour q
+
+-- a record is written at one of the places
+abbrev pub Fitting : Left → Type 0
+Fitting Nothing = Unit {0}
+Fitting (Put place new) = place < 256
+Fitting (Batch hour) = Unit {0}
+
+-- where a record is written, if it is
+module _ (new : Record) where
+  placed-put : (rs : List Record) (o : Option ℕ) → placed rs (put_at o new) ≡ stored rs o new
+  placed-put rs Without = refl
+  placed-put rs (Some place) = refl
+
+  put-unbatched : (P : ℕ → Type 0) (o : Option ℕ) → OfBatch P (put_at o new)
+  put-unbatched P Without = tt
+  put-unbatched P (Some place) = tt
+
+  put-fitting : (o : Option ℕ) → Inside 256 o → Fitting (put_at o new)
+  put-fitting Without h = tt
+  put-fitting (Some place) h = h
 
 moved-over : (x y a c : ℤ) → y +ℤ a ≡ x +ℤ c → (x -ℤ a) +ℤ c ≡ y
 moved-over x y a c e = omega (arith, signed, sum_of (x -ℤ a) c, difference-of x a, sum_of y a, sum_of x c)
@@ -87,6 +123,12 @@ moved-over x y a c e = omega (arith, signed, sum_of (x -ℤ a) c, difference-of 
 pub unsound-step : (b : Book) (m : Message) (ms : List ℕ) (ps : List ℤ) → sound b ≡ false → step b m ms ps ≡ record { book = b; answer = Refused 1 (pos 0) (pos 0) }
 unfolding step outcome concluded held_answered owed_answered
 unsound-step b m ms ps h = ap (outcome b ms ps) (verdict-is b m ms ps) ∙ rw h (rw h refl)
+
+-- a batch is left by a sound book, whose step is then what the places say
+pub record HandedOn (b : Book) (m : Message) (ms : List ℕ) (ps : List ℤ) (hour : ℕ) : Type 0 where
+  pub sane : sound b ≡ true
+  pub passed : None (close_rows hour ms ps)
+  pub goes : step b m ms ps ≡ outcome b ms ps (judge (batch_rows hour ms b.records) (CloseHour hour))
 
 module _ (b : Book) (m : Message) (ms : List ℕ) (ps : List ℤ) (s : View) (few : length b.records ≡ 256) (account-so : s.account ≡ b.account)
     (sound-so : s.sound ≡ sound b) (walk : Sees b (key_of m) s)
@@ -97,13 +139,38 @@ module _ (b : Book) (m : Message) (ms : List ℕ) (ps : List ℤ) (s : View) (fe
   abbrev old : Record
   old = lookup b (key_of m)
 
-  untouched : set rs 256 blank ≡ rs
-  untouched = set_out rs 256 blank (omega (arith, few))
+  -- a place that a search found is one of the places
+  found-inside : (q : Record → Bool) (o : Option ℕ) → o ≡ position q rs → Inside 256 o
+  found-inside q o e = subst (λ (n : ℕ). Inside n o) few (subst (Inside (length rs)) (sym e) (inside q rs))
+
+  fitting-carried : (d : Deed) → Fitting (carried_out s d).left
+  unfolding put_in
+  fitting-carried (Keyed (Add r)) = put-fitting r s.free (found-inside is_free s.free walk.lowest)
+  fitting-carried (Keyed (Rebid was r)) = put-fitting r s.at (found-inside (at (key_of m)) s.at walk.place)
+  fitting-carried (Keyed (Advance r)) = put-fitting r s.at (found-inside (at (key_of m)) s.at walk.place)
+  fitting-carried (Keyed (Remove k)) = put-fitting blank s.at (found-inside (at (key_of m)) s.at walk.place)
+  fitting-carried (Keyed (AddPending r)) = put-fitting r s.free (found-inside is_free s.free walk.lowest)
+  fitting-carried (SetSupport z) = tt
+  fitting-carried (CloseHour hour) = tt
+
+  fitting-ending : (v : Verdict Deed) → Fitting (ending_of s v).left
+  unfolding ending_of turned_away
+  fitting-ending (refuse n) = tt
+  fitting-ending (accept d) = fitting-carried d
+
+  fitting-by : (t : Bool) (v : Verdict Deed) → Fitting (cond t (ending_of s v) (unsound s)).left
+  unfolding unsound
+  fitting-by true v = fitting-ending v
+  fitting-by false v = tt
+
+  pub fitting : Fitting (ended s (verdict_of p)).left
+  unfolding ended
+  fitting = fitting-by s.sound (pass (totals_of s) (verdict_of p))
 
   -- ---- not sound
   ends-unsound : sound b ≡ false → (v : Verdict Deed) → written b (unsound s) ≡ outcome b ms ps (concluded b ms v)
   unfolding outcome concluded held_answered owed_answered unsound
-  ends-unsound h v = rw h (rw h (λ i. record { book = record { records = untouched i; account = account-so i }; answer = Refused 1 (pos 0) (pos 0) }))
+  ends-unsound h v = rw h (rw h (λ i. record { book = record { records = rs; account = account-so i }; answer = Refused 1 (pos 0) (pos 0) }))
 
   unsound-is : sound b ≡ false → ended s (verdict_of p) ≡ unsound s
   unfolding ended
@@ -123,15 +190,15 @@ module _ (b : Book) (m : Message) (ms : List ℕ) (ps : List ℤ) (s : View) (fe
       support = (account-so i).support;
       held = (account-so i).held;
       owed = (account-so i).owed;
-      full = (ap (λ (n : ℕ). eqb n 256) walk.lowest ∙ ap (eqb (index is_free rs)) (sym few) ∙ sym (missing-index is_free rs)) i;
+      full = (ap is_none walk.lowest ∙ sym (missing-position is_free rs)) i;
     }
 
     ends-refused : (n : ℕ) → written b (turned_away s n) ≡ outcome b ms ps (refuse n)
     unfolding outcome held_answered owed_answered turned_away
-    ends-refused n = rw h (λ i. record { book = record { records = untouched i; account = account-so i }; answer = Refused n (held-so i) (owed-so i) })
+    ends-refused n = rw h (λ i. record { book = record { records = rs; account = account-so i }; answer = Refused n (held-so i) (owed-so i) })
 
     -- ---- the next book and its sums
-    module _ (q : Record → Bool) (place : ℕ) (was new : Record) (c : Change) (found : place ≡ index q rs) (changed : swap q new rs ≡ change c rs) (answers : new.requirement ≡ answered_by c)
+    module _ (q : Record → Bool) (place : Option ℕ) (was new : Record) (c : Change) (found : place ≡ position q rs) (changed : swap q new rs ≡ change c rs) (answers : new.requirement ≡ answered_by c)
         (sums : (f : Record → ℤ) → f blank ≡ pos 0 → total f (change c rs) +ℤ f was ≡ total f rs +ℤ f new) where
       after : (f : Record → ℤ) → f blank ≡ pos 0 → (x : ℤ) → x ≡ total f rs → ((x -ℤ f was) +ℤ f new) ≡ total f (change c rs)
       after f z x e = ap (λ (y : ℤ). (y -ℤ f was) +ℤ f new) e ∙ moved-over (total f rs) (total f (change c rs)) (f was) (f new) (sums f z)
@@ -147,7 +214,7 @@ module _ (b : Book) (m : Message) (ms : List ℕ) (ps : List ℤ) (s : View) (fe
       ends-put : written b (put_in s place was new) ≡ outcome b ms ps (accept (Keyed c))
       unfolding outcome done answer_to put_in held owed
       ends-put = λ i. record {
-        book = record { records = (ap (λ (n : ℕ). set rs n new) found ∙ sym (swap-set q new rs) ∙ changed) i; account = totalled (account-so i) (next-held i) (next-sums i).owed };
+        book = record { records = (placed-put new rs place ∙ ap (λ (o : Option ℕ). stored rs o new) found ∙ sym (swap-stored q new rs) ∙ changed) i; account = totalled (account-so i) (next-held i) (next-sums i).owed };
         answer = Accepted (answers i) (next-held i) (next-sums i).owed;
       }
 
@@ -169,29 +236,29 @@ module _ (b : Book) (m : Message) (ms : List ℕ) (ps : List ℤ) (s : View) (fe
         ends-put (at (key_of m)) s.at s.old blank (Remove k) walk.place (ap (λ (k : Key). swap (at k) blank rs) (sym f.own)) refl
         (λ g z. ap (λ (x : ℤ). total g (swap (at k) blank rs) +ℤ x) (ap g walk.under ∙ ap (weight g) (sym (lookup-some b (key_of m) f.used))) ∙ (effect b m (Remove k) h f w).sums g z ∙ ap (λ (x : ℤ). total g rs +ℤ x) (sym z))
 
-    ends-carried : (d : Deed) → Fits old m d → None (credit_rows (totals b) d) → ((carried_out s d).hour ≤ 999999 → ⊥) → written b (carried_out s d) ≡ outcome b ms ps (accept d)
+    ends-carried : (d : Deed) → Fits old m d → None (credit_rows (totals b) d) → NoBatch (carried_out s d).left → written b (carried_out s d) ≡ outcome b ms ps (accept d)
     unfolding outcome done answer_to held owed
     ends-carried (Keyed c) f w q = ends-changed c f w
-    ends-carried (CloseHour hour) f w q = absurd (q f.hour-high)
+    ends-carried (CloseHour hour) f w q = absurd q
     ends-carried (SetSupport z) f w q =
-        λ i. record { book = record { records = untouched i; account = record { support = z; held = held-so i; owed = owed-so i } }; answer = Accepted (pos 0) (held-so i) (owed-so i) }
+        λ i. record { book = record { records = rs; account = record { support = z; held = held-so i; owed = owed-so i } }; answer = Accepted (pos 0) (held-so i) (owed-so i) }
 
     -- ---- by the plan, and then by 14 to 16
-    rows_of : (d : Deed) → Fits old m d → ((ending_of s (credit_verdict (totals b) d)).hour ≤ 999999 → ⊥) → judge (book_rows b ms d) d ≡ credit_verdict (totals b) d
+    rows_of : (d : Deed) → Fits old m d → NoBatch (ending_of s (credit_verdict (totals b) d)).left → judge (book_rows b ms d) d ≡ credit_verdict (totals b) d
     unfolding credit_verdict judge first answered ending_of
     rows_of (Keyed c) f q = refl
     rows_of (SetSupport z) f q = refl
-    rows_of (CloseHour hour) f q = absurd (q f.hour-high)
+    rows_of (CloseHour hour) f q = absurd q
 
-    ends-rows : (d : Deed) → Fits old m d → (v : Verdict Deed) → credit_verdict (totals b) d ≡ v → ((ending_of s v).hour ≤ 999999 → ⊥) → written b (ending_of s v) ≡ outcome b ms ps v
+    ends-rows : (d : Deed) → Fits old m d → (v : Verdict Deed) → credit_verdict (totals b) d ≡ v → NoBatch (ending_of s v).left → written b (ending_of s v) ≡ outcome b ms ps v
     unfolding ending_of credit_verdict turned_away
     ends-rows d f (refuse n) e q = ends-refused n
     ends-rows d f (accept d') e q =
         let passed = judge-accept (credit_rows (totals b) d) d d' (credit-rows-numbered (totals b) d) e in
         subst (λ (x : Deed). written b (carried_out s x) ≡ outcome b ms ps (accept x)) passed.1
-        (ends-carried d f passed.0 (λ n. q (subst (λ (x : Deed). (carried_out s x).hour ≤ 999999) passed.1 n)))
+        (ends-carried d f passed.0 (subst (λ (x : Deed). NoBatch (carried_out s x).left) (sym passed.1) q))
 
-    ends-passed : (v : Verdict Deed) → plan old m ms ps ≡ v → ((ending_of s (pass (totals b) v)).hour ≤ 999999 → ⊥)
+    ends-passed : (v : Verdict Deed) → plan old m ms ps ≡ v → NoBatch (ending_of s (pass (totals b) v)).left
         → written b (ending_of s (pass (totals b) v)) ≡ outcome b ms ps (admitted b ms v)
     unfolding ending_of pass admitted
     ends-passed (refuse n) e q = ends-refused n
@@ -207,40 +274,40 @@ module _ (b : Book) (m : Message) (ms : List ℕ) (ps : List ℤ) (s : View) (fe
     ended_is =
         ap (λ (t : Bool). cond t (ending_of s (pass (totals_of s) (verdict_of p))) (unsound s)) (sound-so ∙ h) ∙ (λ i. ending_of s (pass (totals-so i) (planned-is i)))
 
-    ends-sound : ((ended s (verdict_of p)).hour ≤ 999999 → ⊥) → written b (ended s (verdict_of p)) ≡ outcome b ms ps (concluded b ms (plan old m ms ps))
+    ends-sound : NoBatch (ended s (verdict_of p)).left → written b (ended s (verdict_of p)) ≡ outcome b ms ps (concluded b ms (plan old m ms ps))
     unfolding concluded
     ends-sound q =
         ap (written b) ended_is
-        ∙ ends-passed (plan old m ms ps) refl (λ n. q (subst (λ (e : Ending). e.hour ≤ 999999) (sym ended_is) n))
+        ∙ ends-passed (plan old m ms ps) refl (subst (λ (e : Ending). NoBatch e.left) ended_is q)
         ∙ ap (λ (t : Bool). outcome b ms ps (cond t (admitted b ms (plan old m ms ps)) (refuse 1))) (sym h)
 
     -- ---- or a batch is left: a close that nothing has turned away by itself
-    hour-changed : (c : Change) → (carried_out s (Keyed c)).hour ≤ 999999 → Keyed c ≡ CloseHour (carried_out s (Keyed c)).hour
+    batch-carried : (d : Deed) → OfBatch (λ (hour : ℕ). d ≡ CloseHour hour) (carried_out s d).left
     unfolding put_in
-    hour-changed (Add r) q = absurd (beyond q)
-    hour-changed (AddPending r) q = absurd (beyond q)
-    hour-changed (Rebid was r) q = absurd (beyond q)
-    hour-changed (Advance r) q = absurd (beyond q)
-    hour-changed (Remove k) q = absurd (beyond q)
+    batch-carried (Keyed (Add r)) = put-unbatched r (λ (hour : ℕ). Keyed (Add r) ≡ CloseHour hour) s.free
+    batch-carried (Keyed (AddPending r)) = put-unbatched r (λ (hour : ℕ). Keyed (AddPending r) ≡ CloseHour hour) s.free
+    batch-carried (Keyed (Rebid was r)) = put-unbatched r (λ (hour : ℕ). Keyed (Rebid was r) ≡ CloseHour hour) s.at
+    batch-carried (Keyed (Advance r)) = put-unbatched r (λ (hour : ℕ). Keyed (Advance r) ≡ CloseHour hour) s.at
+    batch-carried (Keyed (Remove k)) = put-unbatched blank (λ (hour : ℕ). Keyed (Remove k) ≡ CloseHour hour) s.at
+    batch-carried (SetSupport z) = tt
+    batch-carried (CloseHour hour) = refl
 
-    hour-carried : (d : Deed) → (carried_out s d).hour ≤ 999999 → d ≡ CloseHour (carried_out s d).hour
-    hour-carried (Keyed c) q = hour-changed c q
-    hour-carried (SetSupport z) q = absurd (beyond q)
-    hour-carried (CloseHour hour) q = refl
-
-    hour-rows : (d : Deed) (v : Verdict Deed) → credit_verdict (totals b) d ≡ v → (ending_of s v).hour ≤ 999999 → d ≡ CloseHour (ending_of s v).hour
+    batch-rows : (d : Deed) (v : Verdict Deed) → credit_verdict (totals b) d ≡ v → OfBatch (λ (hour : ℕ). d ≡ CloseHour hour) (ending_of s v).left
     unfolding ending_of credit_verdict turned_away
-    hour-rows d (refuse n) e q = absurd (beyond q)
-    hour-rows d (accept d') e q = (judge-accept (credit_rows (totals b) d) d d' (credit-rows-numbered (totals b) d) e).1 ∙ hour-carried d' q
+    batch-rows d (refuse n) e = tt
+    batch-rows d (accept d') e =
+        subst (λ (x : Deed). OfBatch (λ (hour : ℕ). x ≡ CloseHour hour) (carried_out s d').left)
+        (sym (judge-accept (credit_rows (totals b) d) d d' (credit-rows-numbered (totals b) d) e).1) (batch-carried d')
 
-    hour-passed : (v : Verdict Deed) → (ending_of s (pass (totals b) v)).hour ≤ 999999 → v ≡ accept (CloseHour (ending_of s (pass (totals b) v)).hour)
+    batch-passed : (v : Verdict Deed) → OfBatch (λ (hour : ℕ). v ≡ accept (CloseHour hour)) (ending_of s (pass (totals b) v)).left
     unfolding pass ending_of turned_away
-    hour-passed (refuse n) q = absurd (beyond q)
-    hour-passed (accept d) q = ap accept (hour-rows d (credit_verdict (totals b) d) refl q)
+    batch-passed (refuse n) = tt
+    batch-passed (accept d) =
+        batch-too (λ (hour : ℕ). d ≡ CloseHour hour) (λ (hour : ℕ). accept d ≡ accept (CloseHour hour)) (λ hour e. ap accept e) (ending_of s (credit_verdict (totals b) d)).left
+        (batch-rows d (credit_verdict (totals b) d) refl)
 
-    left-sound : (ended s (verdict_of p)).hour ≤ 999999 → plan old m ms ps ≡ accept (CloseHour (ended s (verdict_of p)).hour)
-    left-sound q =
-        hour-passed (plan old m ms ps) (subst (λ (e : Ending). e.hour ≤ 999999) ended_is q) ∙ ap (λ (e : Ending). accept (CloseHour e.hour)) (sym ended_is)
+    batch-sound : OfBatch (λ (hour : ℕ). plan old m ms ps ≡ accept (CloseHour hour)) (ended s (verdict_of p)).left
+    batch-sound = subst (λ (e : Ending). OfBatch (λ (hour : ℕ). plan old m ms ps ≡ accept (CloseHour hour)) e.left) (sym ended_is) (batch-passed (plan old m ms ps))
 
     -- ---- and what it adds up is in range
     old-fine : ok_place old ≡ true
@@ -260,21 +327,15 @@ module _ (b : Book) (m : Message) (ms : List ℕ) (ps : List ℤ) (s : View) (fe
     plan-sound (Ok d) e = fair d (fits old m ms ps d (lookup-under b (key_of m) h) (sym planned-is ∙ ap (verdict_of {X = Deed}) e))
 
   -- an ending, written, is the step, but for a batch
-  ends_by : (t : Bool) → sound b ≡ t → ((ended s (verdict_of p)).hour ≤ 999999 → ⊥) → written b (ended s (verdict_of p)) ≡ outcome b ms ps (concluded b ms (plan old m ms ps))
+  ends_by : (t : Bool) → sound b ≡ t → NoBatch (ended s (verdict_of p)).left → written b (ended s (verdict_of p)) ≡ outcome b ms ps (concluded b ms (plan old m ms ps))
   unfolding ended
   ends_by true h q = ends-sound h q
   ends_by false h q =
       ap (λ (t : Bool). written b (cond t (ending_of s (pass (totals_of s) (verdict_of p))) (unsound s))) (sound-so ∙ h) ∙ ends-unsound h (plan old m ms ps)
 
-  pub ends : ((ended s (verdict_of p)).hour ≤ 999999 → ⊥) → written b (ended s (verdict_of p)) ≡ step b m ms ps
+  pub ends : NoBatch (ended s (verdict_of p)).left → written b (ended s (verdict_of p)) ≡ step b m ms ps
   unfolding step
   ends q = ends_by (sound b) refl q ∙ ap (outcome b ms ps) (sym (verdict-is b m ms ps))
-
-  -- and a batch is left by a sound book, whose step is then what the places say
-  pub record Left (hour : ℕ) : Type 0 where
-    pub sane : sound b ≡ true
-    pub passed : None (close_rows hour ms ps)
-    pub goes : step b m ms ps ≡ outcome b ms ps (judge (batch_rows hour ms rs) (CloseHour hour))
 
   close-rows : (hour : ℕ) → plan old m ms ps ≡ accept (CloseHour hour) → (h : sound b ≡ true) → None (close_rows hour ms ps)
   unfolding plan
@@ -282,22 +343,23 @@ module _ (b : Book) (m : Message) (ms : List ℕ) (ps : List ℤ) (s : View) (fe
       let passed = (judge-accept (plan_rows old m ms ps) (deed_for old m ms ps) (CloseHour hour) (plan-rows-numbered old m ms ps) e).0 in
       subst (λ (x : Message). None (plan_rows old x ms ps)) (fits old m ms ps (CloseHour hour) (lookup-under b (key_of m) h) e).is passed
 
-  left_by : (t : Bool) → sound b ≡ t → (ended s (verdict_of p)).hour ≤ 999999 → Left (ended s (verdict_of p)).hour
+  handed-by : (t : Bool) → sound b ≡ t → OfBatch (HandedOn b m ms ps) (ended s (verdict_of p)).left
   unfolding step concluded admitted unsound
-  left_by true h q =
-      let e = left-sound h q in
-      record {
+  handed-by true h =
+      batch-too (λ (hour : ℕ). plan old m ms ps ≡ accept (CloseHour hour)) (HandedOn b m ms ps)
+      (λ hour e. record {
         sane = h;
-        passed = close-rows (ended s (verdict_of p)).hour e h;
+        passed = close-rows hour e h;
         goes =
             ap (outcome b ms ps) (verdict-is b m ms ps)
             ∙ ap (λ (t : Bool). outcome b ms ps (cond t (admitted b ms (plan old m ms ps)) (refuse 1))) h
             ∙ ap (λ (v : Verdict Deed). outcome b ms ps (admitted b ms v)) e;
-      }
-  left_by false h q = absurd (beyond (subst (λ (e : Ending). e.hour ≤ 999999) (unsound-is h) q))
+      })
+      (ended s (verdict_of p)).left (batch-sound h)
+  handed-by false h = subst (λ (e : Ending). OfBatch (HandedOn b m ms ps) e.left) (sym (unsound-is h)) tt
 
-  pub left : (ended s (verdict_of p)).hour ≤ 999999 → Left (ended s (verdict_of p)).hour
-  left q = left_by (sound b) refl q
+  pub handed-on : OfBatch (HandedOn b m ms ps) (ended s (verdict_of p)).left
+  handed-on = handed-by (sound b) refl
 
   pub summable : s.sound ≡ true → Summable s p
   summable t =

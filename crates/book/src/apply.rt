@@ -4,7 +4,7 @@ ghost use Rattle.book.specs.Step.{step};
 
 use crate::types::{Book, Outcome};
 use dispatch::{key_of, plan_of};
-use endings::types::View;
+use endings::types::{Left, View};
 use keys::Key;
 use messages::types::{
     Billing, Closing, Curves, Finishing, Funding, Message, Opening, Posting, Sides, SidesPosting,
@@ -25,9 +25,7 @@ impl Book {
         let mut codes = [0u64; 256];
         let mut walk = Walk::nothing();
         // From the end, as the sums recurse.
-        let mut i: usize = Book::PLACES;
-        while 0 < i {
-            i -= 1;
+        for i in (0..Book::PLACES).rev() {
             let r = next.records[i];
             // At the first place that is out of range: nothing else is asked.
             if !r.is_sound() {
@@ -41,25 +39,21 @@ impl Book {
                 };
             }
             codes[i] = code(r);
-            walk = walk.with(r, key, i as u64);
+            walk = walk.with(r, key, i);
         }
-        // Where the key is not open some other place is read, and passed over.
-        let old = walk.old(next.records[walk.at as usize % Book::PLACES]);
+        let old = walk.old(&next.records);
         let view = View::of(walk, next.account, &codes, old);
         let ending = view.ending(plan_of(message, old, mwh, prices));
-        let hour = ending.hour;
-        if hour <= Key::MAX_HOUR {
-            return next.closed(hour, mwh, prices);
+        match ending.left {
+            Left::Nothing => {}
+            Left::Put(place, new) => next.records[place] = new,
+            Left::Batch(hour) => return next.closed(hour, mwh, prices),
         }
-        let answer = ending.answer;
-        let place = ending.place as usize;
-        let new = ending.new;
-        let account = ending.account;
-        next.account = account;
-        if place < Book::PLACES {
-            next.records[place] = new;
+        next.account = ending.account;
+        Outcome {
+            book: next,
+            answer: ending.answer,
         }
-        Outcome { book: next, answer }
     }
 
     // A message that has no points.

@@ -1,6 +1,6 @@
 -- For the code's own steps alone: how a message ends, over what it sees of a book and nothing more. Nothing here is the paper's: crate `book`, proofs/Written.antt, shows that it is the step.
 -- Assumes nothing.
-use Rattle.std.specs.Prelude.{Result, Ok, Err, ◌≡◌, true, ◌&&◌, cond, List, ℕ, eqb, ℤ, pos}
+use Rattle.std.specs.Prelude.{Result, Ok, Err, ◌≡◌, true, ◌&&◌, cond, List, ℕ, ℤ, pos, Option, Some, None, is_none}
 use Rattle.amounts.specs.Amount.{Within}
 use Rattle.amounts.specs.Limits.{is_support}
 use Rattle.distinct.specs.Numbers.{all_distinct}
@@ -20,6 +20,8 @@ use Rattle.credit.specs.Sums.{with_record, without_record, summed, keeps_sums}
 use Rattle.credit.specs.NoOverflow.{SumsWithin, TotalsBounded}
 use Rattle.refusals.specs.declared.Answer.{Answer}
 use Rattle.refusals.specs.declared.Answer.TheVariants.{Accepted, Refused}
+use Rattle.endings.specs.declared.types.Left.{Left}
+use Rattle.endings.specs.declared.types.Left.TheVariants.{Nothing, Put, Batch}
 pub use Rattle.endings.specs.declared.types.View.{View}
 pub use Rattle.endings.specs.declared.types.Ending.{Ending}
 
@@ -39,7 +41,7 @@ view_of s account codes old =
 
 -- what refusals 14 to 16 see of it
 abbrev pub totals_of : View → Totals
-totals_of s = record { support = s.account.support; held = s.account.held; owed = s.account.owed; full = eqb s.free 256 }
+totals_of s = record { support = s.account.support; held = s.account.held; owed = s.account.owed; full = is_none s.free }
 
 -- ---- that no sum leaves an i64; no function of `Book` asks it
 
@@ -74,7 +76,7 @@ unfoldable pub pass : Totals → Verdict Deed → Verdict Deed
 pass t (refuse n) = refuse n
 pass t (accept d) = credit_verdict t d
 
--- ---- the ways in which a message ends; at 256 nothing is written
+-- ---- the ways in which a message ends
 
 -- the kept held and net owed are answered
 abbrev pub accepting : ℤ → Account → Answer
@@ -83,12 +85,8 @@ accepting requirement account = Accepted requirement account.held account.owed
 abbrev pub refusing : ℕ → Account → Answer
 refusing number account = Refused number account.held account.owed
 
--- one past the last hour: no batch
-abbrev pub no_batch : ℕ
-no_batch = 1000000
-
 abbrev pub unwritten : Answer → Account → Ending
-unwritten answer account = record { answer = answer; account = account; place = 256; new = blank; hour = no_batch }
+unwritten answer account = record { answer = answer; account = account; left = Nothing }
 
 unfoldable pub unsound : View → Ending
 unsound s = unwritten (Refused 1 (pos 0) (pos 0)) s.account
@@ -100,19 +98,22 @@ turned_away s n = unwritten (refusing n s.account) s.account
 abbrev pub account_after : View → Record → Record → Account
 account_after s was new = summed s.account (with_record (without_record s.sums was) new)
 
-unfoldable pub put_in : View → ℕ → Record → Record → Ending
+-- where there is no such place, nothing is written
+abbrev pub put_at : Option ℕ → Record → Left
+put_at None new = Nothing
+put_at (Some place) new = Put place new
+
+unfoldable pub put_in : View → Option ℕ → Record → Record → Ending
 put_in s place was new =
     record {
       answer = accepting new.requirement (account_after s was new);
       account = account_after s was new;
-      place = place;
-      new = new;
-      hour = no_batch;
+      left = put_at place new;
     }
 
 -- a close, once nothing has turned it away by itself: the places have still to be asked (02, order 3)
 abbrev pub left_to : View → ℕ → Ending
-left_to s hour = record { answer = accepting (pos 0) s.account; account = s.account; place = 256; new = blank; hour = hour }
+left_to s hour = record { answer = accepting (pos 0) s.account; account = s.account; left = Batch hour }
 
 abbrev pub carried_out : View → Deed → Ending
 carried_out s (Keyed (Add r)) = put_in s s.free blank r

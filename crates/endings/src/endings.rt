@@ -3,10 +3,10 @@ ghost use Rattle.std.specs.Prelude.{◌≡◌, true};
 ghost use Rattle.refusals.specs.Refusals.{verdict_of};
 ghost use Rattle.records.specs.Records.{ok_place};
 ghost use Rattle.credit.specs.NoOverflow.{SumsWithin};
-ghost use Rattle.endings.specs.Endings.{Summable, view_of, totals_of, credit_verdict, unwritten, turned_away, unsound, put_in, left_to, carried_out, ending_of, ended};
+ghost use Rattle.endings.specs.Endings.{Summable, view_of, totals_of, credit_verdict, unwritten, turned_away, unsound, put_at, put_in, left_to, carried_out, ending_of, ended};
 
 use crate::answers::{accepting, refusing};
-use crate::types::{Ending, View};
+use crate::types::{Ending, Left, View};
 use amounts::Amount;
 use credit::types::{Account, Totals};
 use messages::types::{Change, Deed};
@@ -14,18 +14,27 @@ use records::types::Record;
 use refusals::{Answer, Refusal};
 use walk::types::Walk;
 
+impl Left {
+    // Where there is no such place, nothing is written.
+    fn put(place: Option<usize>, new: Record) -> Left
+        ensures { result ≡ put_at place new }
+    {
+        match place {
+            Some(place) => Left::Put(place, new),
+            None => Left::Nothing,
+        }
+    }
+}
+
 impl Ending {
     // The ending that writes no record.
     fn unwritten(answer: Answer, account: Account) -> Ending
         ensures { result ≡ unwritten answer account }
     {
-        let new = Record::blank();
         Ending {
             answer,
             account,
-            place: Walk::NOWHERE,
-            new,
-            hour: Ending::NO_BATCH,
+            left: Left::Nothing,
         }
     }
 }
@@ -58,7 +67,7 @@ impl View {
             support: account.support,
             held: account.held,
             owed: account.owed,
-            full: self.free == Walk::NOWHERE,
+            full: self.free.is_none(),
         }
     }
 
@@ -70,7 +79,7 @@ impl View {
     }
 
     // A record in another's stead.
-    fn put(self, place: u64, was: Record, new: Record) -> Ending
+    fn put(self, place: Option<usize>, was: Record, new: Record) -> Ending
         requires sums_within { SumsWithin 332800000000000 self.sums }
         requires was_value { ok_place was ≡ true }
         requires value { ok_place new ≡ true }
@@ -82,9 +91,7 @@ impl View {
         Ending {
             answer: accepting(new.requirement, next),
             account: next,
-            place,
-            new,
-            hour: Ending::NO_BATCH,
+            left: Left::put(place, new),
         }
     }
 
@@ -115,13 +122,10 @@ impl View {
     {
         let account = self.account;
         let answer = accepting(0, account);
-        let new = Record::blank();
         Ending {
             answer,
             account,
-            place: Walk::NOWHERE,
-            new,
-            hour,
+            left: Left::Batch(hour),
         }
     }
 

@@ -208,6 +208,19 @@ module _ {X : Type 0} where
   number-in (accept x) = 0
   number-in (refuse n) = n
 
+module _ {X : Type 0} where
+  value-in : X → Verdict X → X
+  value-in d (accept x) = x
+  value-in d (refuse n) = d
+
+  -- what the code answers is determined by its verdict
+  pub verdict-one : (r s : Result X Refusal) → verdict_of r ≡ verdict_of s → r ≡ s
+  unfolding is-accept number-in value-in
+  verdict-one (Ok x) (Ok y) e = ap Ok (ap (value-in x) e)
+  verdict-one (Ok x) (Err f) e = never (sym (ap is-accept e))
+  verdict-one (Err f) (Ok y) e = never (ap is-accept e)
+  verdict-one (Err f) (Err g) e = ap Err (number-one f g (ap number-in e))
+
 module _ {U X : Type 0} where
   stopped-by : (n m : ℕ) (u : U) (x : X) (below : ℕ) (b : Bool) → eqb m 0 ≡ b → ◌≡◌ {A = Verdict U} (refuse n) (cond b (accept u) (refuse m)) → ◌≡◌ {A = Verdict X} (refuse n) (answered (or_else m below) x)
   unfolding answered or_else is-accept number-in

@@ -1,8 +1,8 @@
 // The walk's one step, and what it finds in the end.
-ghost use Rattle.std.specs.Prelude.{◌≡◌, true, cond, ltb};
-ghost use Rattle.records.specs.Records.{blank, ok_place};
+ghost use Rattle.std.specs.Prelude.{◌≡◌, true};
+ghost use Rattle.records.specs.Records.{ok_place};
 ghost use Rattle.credit.specs.NoOverflow.{SumsWithin};
-ghost use Rattle.walk.specs.Walk.{nothing, more};
+ghost use Rattle.walk.specs.Walk.{nothing, more, under};
 
 use crate::types::Walk;
 use credit::types::Sums;
@@ -15,13 +15,13 @@ impl Walk {
     {
         Walk {
             sums: Sums::none(),
-            free: Walk::NOWHERE,
-            at: Walk::NOWHERE,
+            free: None,
+            at: None,
         }
     }
 
     // One place more, before those that were passed.
-    pub fn with(self, r: Record, key: Key, place: u64) -> Walk
+    pub fn with(self, r: Record, key: Key, place: usize) -> Walk
         requires sums_within { SumsWithin 400000000000000 self.sums }
         requires r_value { ok_place r ≡ true }
         ensures { result ≡ more self r key place }
@@ -30,25 +30,24 @@ impl Walk {
         if r.is_free() {
             return Walk {
                 sums,
-                free: place,
+                free: Some(place),
                 at: self.at,
             };
         }
         Walk {
             sums: sums.with(r),
             free: self.free,
-            at: if r.is_at(key) { place } else { self.at },
+            at: if r.is_at(key) { Some(place) } else { self.at },
         }
     }
 
-    // The record under the key, given what stands at the key's place; blank where the key is not open.
-    pub fn old(self, there: Record) -> Record
-        ensures { result ≡ cond (ltb self.at 256) there blank }
+    // The record under the key; blank where the key is not open.
+    pub fn old(self, records: &[Record; 256]) -> Record
+        ensures { result ≡ under self records.now }
     {
-        if self.at < Walk::NOWHERE {
-            there
-        } else {
-            Record::blank()
+        match self.at {
+            Some(place) if place < records.len() => records[place],
+            _ => Record::blank(),
         }
     }
 }

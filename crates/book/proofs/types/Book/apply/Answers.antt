@@ -1,35 +1,23 @@
 -- `Book::apply`: the walk has seen all places (proofs/Walked.antt), and the ending, written, is the step (proofs/Written.antt).
-use Prim.Native.Nat.{ℕ, ◌<◌, ◌≤◌, ◌-◌, ◌%◌}
 use native.Mathlib.Omega.{arith}
-use borrow.Author.Tests.{not-true, not-false}
-use mathlib.Core.Path.{◌≡◌, refl, sym, ap, ◌∙◌, subst}
+use mathlib.Core.Path.{◌≡◌, refl, sym, ◌∙◌, subst}
 use mathlib.Core.Bool.{true}
+use Prim.Native.Nat.{ℕ, ◌<◌, ◌≤◌, ◌-◌}
+use lib.ListN.{length, get_or, set}
+use Rattle.records.specs.Records.{blank, ok_place}
 use mathlib.Core.List.{List}
-use lib.IntN.{ℤ}
-use lib.ListN.{length, get_or, set, length-map}
-use lib.Seq.{set_out}
 use Rattle.keys.specs.declared.Key.{Key}
 use Rattle.records.specs.declared.types.Record.{Record}
-use Rattle.records.specs.Records.{blank, at, ok_place}
-use Rattle.messages.specs.declared.types.Message.{Message}
-use Rattle.messages.specs.Plan.{key_of, plan}
-use Rattle.credit.specs.declared.types.Sums.{Sums}
-use Rattle.credit.specs.Account.{keeps_totals}
-use Rattle.credit.specs.Sums.{held_of, keeps_sums}
-use Rattle.book.specs.Books.{Book, lookup, sound, held, owed}
-use Rattle.book.specs.Step.{step}
-use Rattle.endings.specs.declared.types.View.{View}
-use Rattle.endings.specs.declared.types.Ending.{Ending}
-use Rattle.endings.specs.Endings.{view_of, Summable, ended}
+use Rattle.endings.specs.declared.types.Left.{Left}
+use Rattle.endings.specs.declared.types.Left.TheVariants.{Nothing, Put, Batch}
 use Rattle.walk.specs.declared.types.Walk.{Walk}
 use Rattle.credit.proofs.Parts.{sums-wider}
-use Rattle.book.proofs.Passed.{index}
-use Rattle.book.proofs.Sums.{held_by}
-use Rattle.book.proofs.Codes.{sound-by, unsound-by}
-use Rattle.book.proofs.Walked.{Walked, begun, light, walked_more, out_of_range, all-ranged, all_coded, free-is, place_is, summed, looked-up}
-use Rattle.book.proofs.Written.{Sees, unsound-step, written, ends, Left, left, summable}
+use Rattle.book.proofs.Codes.{unsound-by}
+use Rattle.book.proofs.Walked.{Walked, begun, light, walked_more, out_of_range}
+use Rattle.book.proofs.Written.{unsound-step}
 use borrow.Author.Rules.{rules}
-use Rattle.book.proofs.Applied.{summable-so, left_at, written-so}
+use Rattle.book.proofs.Applied.{Carried, summable-so, ended-so}
+use Rattle.book.proofs.types.Book.apply.Goals.{After-ending-ending, in-Nothing, in-Put}
 use Rattle.book.proofs.types.Book.apply.Goals as goal
 
 pub loop-i-init : goal.loop-i-init
@@ -44,7 +32,7 @@ returns-then-not-is_sound c =
     let b = c.args.self in
     let few : length b.records ≡ 256 = search rules in
     let bad = sym c.is_sound.ensures ∙ c.if-not-is_sound.true in
-    let more : 0 < l.i = omega (arith, c.loop-i-test.true) in
+    let more : 0 < l.i = c.loop-i-test.true in
     sym
     (unsound-step b c.args.message c.args.mwh.now c.args.prices.now
     (unsound-by b (out_of_range c.key_of-key.result b.records l.codes l.walk l.i _ few more l.invariant refl bad)))
@@ -65,51 +53,57 @@ loop-i-preserved c =
     let codes = set l.codes (l.i - 1) c.code.result in
     let fine : ok_place (get_or rs (l.i - 1) blank) ≡ true = sym c.is_sound.ensures ∙ c.if-not-is_sound.false in
     subst (λ (x : Walk). Walked key rs codes x (l.i - 1)) (sym c.with-walk.ensures)
-    (walked_more key rs l.codes l.walk l.i c.code.result few (omega (arith, c.loop-i-test.true)) l.invariant c.code.ensures fine)
+    (walked_more key rs l.codes l.walk l.i c.code.result few (c.loop-i-test.true) l.invariant c.code.ensures fine)
+
+-- the walk is at its end
+all : (key : Key) (rs : List Record) (codes : List ℕ) (walk : Walk) (i : ℕ) → i ≤ 0 → Walked key rs codes walk i → Walked key rs codes walk 0
+all key rs codes walk i end w =
+    let z : i ≡ 0 = omega (arith, end) in
+    subst (Walked key rs codes walk) z w
 
 pub of-view-requires : goal.of-view-requires
 of-view-requires c =
-    let l = c.loop-i in
     let few : length c.args.self.records ≡ 256 = search rules in
-    light _ c.args.self.records l.codes l.walk l.i few l.invariant
+    light c.key_of-key.result c.args.self.records c.loop-i.codes c.loop-i.walk c.loop-i.i few c.loop-i.invariant
 
 pub ending-ending-requires : goal.ending-ending-requires
-ending-ending-requires c = summable-so c.args.self c.args.message c.args.mwh.now c.args.prices.now c.key_of-key.result c.key_of-key.ensures c.loop-i.codes c.loop-i.walk (search rules)
-    (let z : c.loop-i.i ≡ 0 = omega (arith, c.loop-i-test.false) in subst (Walked c.key_of-key.result c.args.self.records c.loop-i.codes c.loop-i.walk) z c.loop-i.invariant)
+ending-ending-requires c =
+    summable-so c.args.self c.args.message c.args.mwh.now c.args.prices.now c.key_of-key.result c.key_of-key.ensures c.loop-i.codes c.loop-i.walk (search rules)
+    (all c.key_of-key.result c.args.self.records c.loop-i.codes c.loop-i.walk c.loop-i.i c.loop-i-test.false c.loop-i.invariant)
     c.old-old.result c.old-old.ensures c.of-view.result c.of-view.ensures c.plan_of.result c.plan_of.ensures
+
+-- by what the ending leaves
+ended-by : (c : After-ending-ending) → (left : Left) → c.ending-ending.result.left ≡ left
+    → Carried c.args.self c.args.message c.args.mwh.now c.args.prices.now c.ending-ending.result left
+ended-by c left is =
+    ended-so c.args.self c.args.message c.args.mwh.now c.args.prices.now c.key_of-key.result c.key_of-key.ensures c.loop-i.codes c.loop-i.walk (search rules)
+    (all c.key_of-key.result c.args.self.records c.loop-i.codes c.loop-i.walk c.loop-i.i c.loop-i-test.false c.loop-i.invariant)
+    c.old-old.result c.old-old.ensures c.of-view.result c.of-view.ensures c.plan_of.result c.plan_of.ensures
+    c.ending-ending.result c.ending-ending.ensures left is
+
+pub bounds-next-place : goal.bounds-next-place
+bounds-next-place c = (ended-by (goal.at.bounds-next-place c).After-ending-ending (Put c.in-Put.place c.in-Put.new) c.in-Put.is).fitting
+
+pub offset_bounds-next-place : goal.offset_bounds-next-place
+offset_bounds-next-place c =
+    let one : c.in-Put.place < 256 = (ended-by (goal.at.offset_bounds-next-place c).After-ending-ending (Put c.in-Put.place c.in-Put.new) c.in-Put.is).fitting in
+    omega (arith, one)
 
 pub closed-requires-clause-self_value : goal.closed-requires-clause-self_value
-closed-requires-clause-self_value c = (left_at c.args.self c.args.message c.args.mwh.now c.args.prices.now c.key_of-key.result c.key_of-key.ensures c.loop-i.codes c.loop-i.walk (search rules)
-    (let z : c.loop-i.i ≡ 0 = omega (arith, c.loop-i-test.false) in subst (Walked c.key_of-key.result c.args.self.records c.loop-i.codes c.loop-i.walk) z c.loop-i.invariant)
-    c.old-old.result c.old-old.ensures c.of-view.result c.of-view.ensures c.plan_of.result c.plan_of.ensures
-    c.ending-ending.result c.ending-ending.ensures c.if-hour-le-MAX_HOUR.true).sane
+closed-requires-clause-self_value c = (ended-by (goal.at.closed-requires-clause-self_value c).After-ending-ending (Batch c.in-Batch.hour) c.in-Batch.is).handed.sane
 
 pub closed-requires-clause-none : goal.closed-requires-clause-none
-closed-requires-clause-none c = (left_at c.args.self c.args.message c.args.mwh.now c.args.prices.now c.key_of-key.result c.key_of-key.ensures c.loop-i.codes c.loop-i.walk (search rules)
-    (let z : c.loop-i.i ≡ 0 = omega (arith, c.loop-i-test.false) in subst (Walked c.key_of-key.result c.args.self.records c.loop-i.codes c.loop-i.walk) z c.loop-i.invariant)
-    c.old-old.result c.old-old.ensures c.of-view.result c.of-view.ensures c.plan_of.result c.plan_of.ensures
-    c.ending-ending.result c.ending-ending.ensures c.if-hour-le-MAX_HOUR.true).passed
+closed-requires-clause-none c = (ended-by (goal.at.closed-requires-clause-none c).After-ending-ending (Batch c.in-Batch.hour) c.in-Batch.is).handed.passed
 
-pub returns-then-hour-le-MAX_HOUR : goal.returns-then-hour-le-MAX_HOUR
-returns-then-hour-le-MAX_HOUR c = c.closed.ensures ∙ sym (left_at c.args.self c.args.message c.args.mwh.now c.args.prices.now c.key_of-key.result c.key_of-key.ensures c.loop-i.codes c.loop-i.walk (search rules)
-    (let z : c.loop-i.i ≡ 0 = omega (arith, c.loop-i-test.false) in subst (Walked c.key_of-key.result c.args.self.records c.loop-i.codes c.loop-i.walk) z c.loop-i.invariant)
-    c.old-old.result c.old-old.ensures c.of-view.result c.of-view.ensures c.plan_of.result c.plan_of.ensures
-    c.ending-ending.result c.ending-ending.ensures c.if-hour-le-MAX_HOUR.true).goes
+pub returns-in-Batch : goal.returns-in-Batch
+returns-in-Batch c = c.closed.ensures ∙ sym (ended-by (goal.at.returns-in-Batch c).After-ending-ending (Batch c.in-Batch.hour) c.in-Batch.is).handed.goes
 
-pub returns-then-place-lt-PLACES : goal.returns-then-place-lt-PLACES
-returns-then-place-lt-PLACES c = written-so c.args.self c.args.message c.args.mwh.now c.args.prices.now c.key_of-key.result c.key_of-key.ensures c.loop-i.codes c.loop-i.walk (search rules)
-    (let z : c.loop-i.i ≡ 0 = omega (arith, c.loop-i-test.false) in subst (Walked c.key_of-key.result c.args.self.records c.loop-i.codes c.loop-i.walk) z c.loop-i.invariant)
-    c.old-old.result c.old-old.ensures c.of-view.result c.of-view.ensures c.plan_of.result c.plan_of.ensures
-    c.ending-ending.result c.ending-ending.ensures (λ h. omega (arith, c.if-hour-le-MAX_HOUR.false, h))
-
-pub returns-else-place-lt-PLACES : goal.returns-else-place-lt-PLACES
-returns-else-place-lt-PLACES c =
+pub returns : goal.returns
+returns c =
     let e = c.ending-ending.result in
-    let b = c.args.self in
-    let few : length b.records ≡ 256 = search rules in
-    let past : length b.records ≤ e.place = omega (arith, few, c.if-place-lt-PLACES.false) in
-    (λ i. record { book = record { records = sym (set_out b.records e.place e.new past) i; account = e.account }; answer = e.answer })
-    ∙ written-so c.args.self c.args.message c.args.mwh.now c.args.prices.now c.key_of-key.result c.key_of-key.ensures c.loop-i.codes c.loop-i.walk (search rules)
-    (let z : c.loop-i.i ≡ 0 = omega (arith, c.loop-i-test.false) in subst (Walked c.key_of-key.result c.args.self.records c.loop-i.codes c.loop-i.walk) z c.loop-i.invariant)
-    c.old-old.result c.old-old.ensures c.of-view.result c.of-view.ensures c.plan_of.result c.plan_of.ensures
-    e c.ending-ending.ensures (λ h. omega (arith, c.if-hour-le-MAX_HOUR.false, h))
+    elim c.match-ending.branch [
+      | in-Nothing w ↦ (λ i. record { book = record { records = (w.next-is i).records; account = e.account }; answer = e.answer })
+          ∙ (ended-by (goal.at.returns c).After-ending-ending Nothing w.in-Nothing.is).goes tt
+      | in-Put w ↦ (λ i. record { book = record { records = (w.next-is i).records; account = e.account }; answer = e.answer })
+          ∙ (ended-by (goal.at.returns c).After-ending-ending (Put w.in-Put.place w.in-Put.new) w.in-Put.is).goes tt
+    ]

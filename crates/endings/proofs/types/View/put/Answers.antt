@@ -57,7 +57,5 @@ returns c =
     λ i. record {
       answer = (c.accepting.ensures ∙ (λ j. accepting (requirement.is j) (account j))) i;
       account = account i;
-      place = c.args.place;
-      new = c.args.new;
-      hour = 1000000;
+      left = c.put.ensures i;
     }
