@@ -59,7 +59,7 @@ pub fn refuse_if(applies: bool, refusal: Refusal) -> Result<(), Refusal>
     if applies { Err(refusal) } else { Ok(()) }
 }
 
-// The number of an answer's refusal; 0 is none.
+// The number of an answer's refusal, for a caller that answers in the table's numbers; 0 is none.
 pub fn refusal_number<T>(answer: &Result<T, Refusal>) -> u64
     ensures { result ≡ refusal_of (verdict_of answer.now) }
 {
@@ -83,7 +83,7 @@ pub struct Bid {
     pub cents: i64,
 }
 
-// A bid; a refusal's is 0 throughout.
+// A bid, for such a caller; a refusal's is 0 throughout.
 pub fn bid_or_zero(answer: Result<Bid, Refusal>) -> Bid
     ensures { result ≡ bid_of (verdict_of answer) }
 {
