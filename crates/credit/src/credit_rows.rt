@@ -24,6 +24,7 @@ pub(crate) fn reaches_half(support: i64, owed: i64) -> bool
 }
 
 impl Totals {
+    #[tactic(auto, unfolding(crate::specs::Credit::suspended))]
     pub fn is_suspended(self) -> bool
         ensures { result ≡ suspended self }
     {
@@ -63,10 +64,12 @@ impl Totals {
             }
             Change::Rebid(was, r) => {
                 refuse_if(self.is_suspended(), Refusal::Suspended)?;
-                refuse_if(self.is_above_after(was, r.requirement), Refusal::AboveSupport)
+                refuse_if(
+                    self.is_above_after(was, r.requirement),
+                    Refusal::AboveSupport,
+                )
             }
-            Change::Advance(_) => Ok(()),
-            Change::Remove(_) => Ok(()),
+            Change::Advance(_) | Change::Remove(_) => Ok(()),
             // Its credit is not checked.
             Change::AddPending(_) => {
                 refuse_if(self.is_suspended(), Refusal::Suspended)?;
@@ -83,8 +86,7 @@ impl Totals {
     {
         match deed {
             Deed::Keyed(change) => self.check_change(change),
-            Deed::SetSupport(_) => Ok(()),
-            Deed::CloseHour(_) => Ok(()),
+            Deed::SetSupport(_) | Deed::CloseHour(_) => Ok(()),
         }
     }
 }
