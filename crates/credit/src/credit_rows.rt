@@ -6,21 +6,15 @@ ghost use Rattle.refusals.specs.Refusals.{judge, verdict_of};
 ghost use Rattle.credit.specs.Credit.{reaches_half, suspended, credit_rows};
 ghost use Rattle.credit.specs.NoOverflow.{TotalsBounded, DeedBounded};
 
-use crate::types::{Account, Totals};
+use crate::types::Totals;
 use messages::types::{Change, Deed};
 use refusals::{Refusal, refuse_if};
 
-// 2 x net owed is at least the support, whatever the two are: where 2 x net owed leaves an i64, net owed alone decides.
+// 2 x net owed is at least the support, whatever the two are: no i64 doubled leaves an i128.
 pub(crate) fn reaches_half(support: i64, owed: i64) -> bool
     ensures { result ≡ reaches_half support owed }
 {
-    if Account::MAX_DOUBLED < owed {
-        return true;
-    }
-    if owed < Account::MIN_DOUBLED {
-        return false;
-    }
-    support <= 2 * owed
+    i128::from(support) <= 2 * i128::from(owed)
 }
 
 impl Totals {

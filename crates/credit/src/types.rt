@@ -9,13 +9,6 @@ pub struct Account {
     pub owed: i64,
 }
 
-impl Account {
-    // Net owed from here to there can be doubled.
-    pub(crate) const MIN_DOUBLED: i64 = -4_611_686_018_427_387_904;
-
-    pub(crate) const MAX_DOUBLED: i64 = 4_611_686_018_427_387_903;
-}
-
 // The requirements of a book's records, in the two parts that held is made of.
 #[derive(Clone, Copy, Default)]
 pub struct Sums {
