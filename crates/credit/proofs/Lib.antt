@@ -1,4 +1,3 @@
-mod Halves
 pub mod Keeping
 pub mod Parts
 pub mod Rows

@@ -6,24 +6,19 @@ ghost use Rattle.refusals.specs.Refusals.{judge, verdict_of};
 ghost use Rattle.credit.specs.Credit.{reaches_half, suspended, credit_rows};
 ghost use Rattle.credit.specs.NoOverflow.{TotalsBounded, DeedBounded};
 
-use crate::types::{Account, Totals};
+use crate::types::Totals;
 use messages::types::{Change, Deed};
 use refusals::{Refusal, refuse_if};
 
-// 2 x net owed is at least the support, whatever the two are: where 2 x net owed leaves an i64, net owed alone decides.
+// 2 x net owed is at least the support, whatever the two are: no i64 doubled leaves an i128.
 pub(crate) fn reaches_half(support: i64, owed: i64) -> bool
     ensures { result ≡ reaches_half support owed }
 {
-    if Account::MAX_DOUBLED < owed {
-        return true;
-    }
-    if owed < Account::MIN_DOUBLED {
-        return false;
-    }
-    support <= 2 * owed
+    i128::from(support) <= 2 * i128::from(owed)
 }
 
 impl Totals {
+    #[tactic(auto, unfolding(crate::specs::Credit::suspended))]
     pub fn is_suspended(self) -> bool
         ensures { result ≡ suspended self }
     {
@@ -63,10 +58,12 @@ impl Totals {
             }
             Change::Rebid(was, r) => {
                 refuse_if(self.is_suspended(), Refusal::Suspended)?;
-                refuse_if(self.is_above_after(was, r.requirement), Refusal::AboveSupport)
+                refuse_if(
+                    self.is_above_after(was, r.requirement),
+                    Refusal::AboveSupport,
+                )
             }
-            Change::Advance(_) => Ok(()),
-            Change::Remove(_) => Ok(()),
+            Change::Advance(_) | Change::Remove(_) => Ok(()),
             // Its credit is not checked.
             Change::AddPending(_) => {
                 refuse_if(self.is_suspended(), Refusal::Suspended)?;
@@ -83,8 +80,7 @@ impl Totals {
     {
         match deed {
             Deed::Keyed(change) => self.check_change(change),
-            Deed::SetSupport(_) => Ok(()),
-            Deed::CloseHour(_) => Ok(()),
+            Deed::SetSupport(_) | Deed::CloseHour(_) => Ok(()),
         }
     }
 }

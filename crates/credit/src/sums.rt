@@ -12,13 +12,11 @@ impl Sums {
     pub fn none() -> Sums
         ensures { result ≡ no_sums }
     {
-        Sums {
-            unbilled: 0,
-            owed: 0,
-        }
+        Sums::default()
     }
 
     // Of one record: it is unbilled until it is billed, and then owed.
+    #[tactic(auto, unfolding(crate::specs::Credit::owes, crate::specs::Sums::unbilled_of))]
     fn of(r: Record) -> Sums
         ensures { result ≡ parts_of r }
     {
@@ -61,6 +59,7 @@ impl Sums {
         }
     }
 
+    #[tactic(auto, unfolding(crate::specs::Sums::held_of))]
     pub fn held(self) -> i64
         requires { SumsWithin 400000000000000 self }
         ensures { result ≡ held_of self.unbilled self.owed }

@@ -1,7 +1,7 @@
 // What a book keeps beside its places, what its records add up to, and what refusals 14 to 16 see.
 
 // What a book keeps beside its places. A message's ending hands it on whole, so that what is kept is named in this crate alone.
-#[derive(Clone, Copy, PartialEq, Eq, Debug)]
+#[derive(Clone, Copy, PartialEq, Eq, Debug, Default)]
 pub struct Account {
     pub support: i64,
     // Credit held and net owed, kept so that a screen reads no record (02, order 1).
@@ -9,15 +9,8 @@ pub struct Account {
     pub owed: i64,
 }
 
-impl Account {
-    // Net owed from here to there can be doubled.
-    pub(crate) const MIN_DOUBLED: i64 = -4_611_686_018_427_387_904;
-
-    pub(crate) const MAX_DOUBLED: i64 = 4_611_686_018_427_387_903;
-}
-
 // The requirements of a book's records, in the two parts that held is made of.
-#[derive(Clone, Copy)]
+#[derive(Clone, Copy, Default)]
 pub struct Sums {
     pub unbilled: i64,
     pub owed: i64,

@@ -37,9 +37,11 @@ impl Intervals {
     pub fn in_range(self) -> bool
         ensures { result ≡ intervals_fit self }
     {
-        [self.first, self.second, self.third, self.fourth]
-            .iter()
-            .all(|&mwh| Quantity { mwh }.in_range())
+        // No iterator over an array of the four: with one, a walk over open records takes twice as many instructions.
+        (self.first <= Quantity::MAX)
+            & (self.second <= Quantity::MAX)
+            & (self.third <= Quantity::MAX)
+            & (self.fourth <= Quantity::MAX)
     }
 
     pub fn is_none(self) -> bool

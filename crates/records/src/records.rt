@@ -103,6 +103,7 @@ impl Record {
     pub fn is_blank(self) -> bool
         ensures { result ≡ is_blank self }
     {
+        // Field by field: by the derived equality a walk over free places takes a third more instructions.
         (self.key.kind == 0)
             & (self.key.path == 0)
             & (self.key.hour == 0)
