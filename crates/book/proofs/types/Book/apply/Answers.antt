@@ -3,7 +3,7 @@ use native.Mathlib.Omega.{arith}
 use mathlib.Core.Path.{◌≡◌, refl, sym, ◌∙◌, subst}
 use mathlib.Core.Bool.{true}
 use Prim.Native.Nat.{ℕ, ◌<◌, ◌≤◌, ◌-◌}
-use lib.ListN.{length, get_or, set}
+use lib.ListN.{length, get_or, set, replicate}
 use Rattle.records.specs.Records.{blank, ok_place}
 use mathlib.Core.List.{List}
 use Rattle.keys.specs.declared.Key.{Key}
@@ -23,7 +23,8 @@ use Rattle.book.proofs.types.Book.apply.Goals as goal
 pub loop-i-init : goal.loop-i-init
 loop-i-init c =
     let few : length c.args.self.records ≡ 256 = search rules in
-    subst (λ (x : Walk). Walked c.key_of-key.result c.args.self.records _ x 256) (sym c.nothing-walk.ensures) (begun c.key_of-key.result c.args.self.records _ few refl)
+    subst (λ (x : Walk). Walked c.key_of-key.result c.args.self.records (replicate 256 0) x 256) (sym c.nothing-walk.ensures)
+    (begun c.key_of-key.result c.args.self.records (replicate 256 0) few refl)
 
 -- a place is out of range
 pub returns-then-not-is_sound : goal.returns-then-not-is_sound
@@ -32,10 +33,9 @@ returns-then-not-is_sound c =
     let b = c.args.self in
     let few : length b.records ≡ 256 = search rules in
     let bad = sym c.is_sound.ensures ∙ c.if-not-is_sound.true in
-    let more : 0 < l.i = c.loop-i-test.true in
     sym
     (unsound-step b c.args.message c.args.mwh.now c.args.prices.now
-    (unsound-by b (out_of_range c.key_of-key.result b.records l.codes l.walk l.i _ few more l.invariant refl bad)))
+    (unsound-by b (out_of_range c.key_of-key.result b.records l.codes l.walk l.i _ few c.loop-i-test.true l.invariant refl bad)))
 
 pub with-walk-requires-clause-sums_within : goal.with-walk-requires-clause-sums_within
 with-walk-requires-clause-sums_within c =
@@ -53,7 +53,7 @@ loop-i-preserved c =
     let codes = set l.codes (l.i - 1) c.code.result in
     let fine : ok_place (get_or rs (l.i - 1) blank) ≡ true = sym c.is_sound.ensures ∙ c.if-not-is_sound.false in
     subst (λ (x : Walk). Walked key rs codes x (l.i - 1)) (sym c.with-walk.ensures)
-    (walked_more key rs l.codes l.walk l.i c.code.result few (c.loop-i-test.true) l.invariant c.code.ensures fine)
+    (walked_more key rs l.codes l.walk l.i c.code.result few c.loop-i-test.true l.invariant c.code.ensures fine)
 
 -- the walk is at its end
 all : (key : Key) (rs : List Record) (codes : List ℕ) (walk : Walk) (i : ℕ) → i ≤ 0 → Walked key rs codes walk i → Walked key rs codes walk 0
