@@ -1,14 +1,15 @@
 -- When numbers stand apart; and that a walk along a bucket's chain passes over no equal number. Any list.
 -- Assumes nothing.
-use mathlib.Core.Path.{◌≡◌, refl, sym, ap, subst, ◌∙◌}
-use mathlib.Core.Bool.{Bool, true, false, not, ◌&&◌, ◌||◌}
+use mathlib.Core.Path.{◌≡◌, refl, sym, ap, ◌∙◌}
+use mathlib.Core.Bool.{Bool, true, false, not, ◌||◌}
 use mathlib.Core.List.{List, [], ◌∷◌, map}
 use mathlib.Core.Logic.{◌⊎◌, inl, inr, ⊎_elim}
 use Prim.Native.Nat.{ℕ, zero, suc, ◌+◌, ◌-◌, ◌≤◌, ◌<◌}
 use native.Mathlib.Omega.{arith}
-use lib.Dec.{T, eqb, ltb}
+use lib.Dec.{eqb, ltb}
 use lib.ListN.{length, get_or, get_or-map, set, replicate, length-set}
 use Rattle.std.proofs.Common.{Option, None, Some}
+use Rattle.std.proofs.lemmas.Bool.{or_right, and_right}
 use lib.Seq.{get_or-set_same, get_or-set_other}
 use borrow.Author.Count.{below_none, below_more}
 use borrow.Author.Tests.{ltb-true, ltb-false, eqb-true, eqb-false, eq-eqb, ne_eqb}
@@ -16,17 +17,6 @@ use Rattle.distinct.specs.Numbers.{stands_in, all_distinct}
 use Rattle.distinct.specs.Chain.{bucket_of, counted, Latest, Linked, Unmet}
 
 -- ---- tests
-pub never : {X : Type 0} → true ≡ false → X
-never e = absurd (subst T e tt)
-
-or_right : (a b : Bool) → b ≡ true → (a || b) ≡ true
-or_right true b h = refl
-or_right false b h = h
-
-and_right : (a b : Bool) → b ≡ false → (a && b) ≡ false
-and_right true b h = h
-and_right false b h = refl
-
 decide : (b : Bool) → (b ≡ true) ⊎ (b ≡ false)
 decide true = inl refl
 decide false = inr refl
@@ -129,10 +119,6 @@ pub record Walked (codes : List ℕ) (n at : ℕ) : Type 0 where
 module _ (codes : List ℕ) (n : ℕ) (held : 0 < get_or codes n 0) where
   passed : (m at k : ℕ) → Latest codes (bucket_of (get_or codes n 0)) m at → k < m → at ≤ k → get_or codes k 0 ≡ get_or codes n 0 → ⊥
   passed m at k l b a e = omega (arith, l.last k b a (ap bucket_of e))
-
-  pub walk-starts : (at : ℕ) → Latest codes (bucket_of (get_or codes n 0)) n at → Walked codes n at
-  walk-starts at l =
-      record { before = l.before; holds = l.holds; falls = l.falls; unmet = λ k. passed n at k l }
 
   -- at a place of the chain: it holds n's number, or the walk goes on from its link
   module _ (at : Option ℕ) (earlier : ℕ) (is : at ≡ Some earlier) (arrived : Walked codes n (counted at)) where

@@ -123,10 +123,6 @@ named-number AboveSupport = refl
 pub number-one : (e f : Refusal) → number_of e ≡ number_of f → e ≡ f
 number-one e f h = sym (named-number e) ∙ ap named h ∙ named-number f
 
-pub row-numbered : (e : Refusal) (t : Bool) → numbered (row (number_of e) t ∷ []) ≡ true
-unfolding numbered
-row-numbered e t = rw (numbered-refusal e)
-
 -- ---- tables one below the other
 numbered-by : (b : Bool) (r : Row) (xs ys : List Row) → not (eqb r.number 0) ≡ true → first (xs ++ ys) ≡ or_else (first xs) (first ys) → cond b r.number (first (xs ++ ys)) ≡ or_else (cond b r.number (first xs)) (first ys)
 unfolding or_else
