@@ -49,12 +49,7 @@ fn counted(kind: u64, counts: Counts, mwh: &[u64], prices: &[i64]) -> bool
 
 // Refusals 2 and 5 to 7, in the table's order.
 #[tactic(auto, unfolding(crate::specs::Intervals::curves_rows, refusals::specs::Refusals::judge, refusals::specs::Refusals::answered, refusals::specs::Refusals::first))]
-fn check_curves(
-    kind: u64,
-    counts: Counts,
-    mwh: &[u64],
-    prices: &[i64],
-) -> Result<(), Refusal>
+fn check_curves(kind: u64, counts: Counts, mwh: &[u64], prices: &[i64]) -> Result<(), Refusal>
     ensures { verdict_of result ≡ judge (kind_row kind ∷ curves_rows kind counts mwh.now prices.now) tt }
 {
     refuse_if(!Kind { number: kind }.in_range(), Refusal::Kind)?;
@@ -90,12 +85,7 @@ fn sums(counts: Counts, mwh: &[u64]) -> Intervals
 }
 
 // The four sums, or the first refusal that applies.
-pub fn curves(
-    kind: u64,
-    counts: Counts,
-    mwh: &[u64],
-    prices: &[i64],
-) -> Result<Intervals, Refusal>
+pub fn curves(kind: u64, counts: Counts, mwh: &[u64], prices: &[i64]) -> Result<Intervals, Refusal>
     ensures { verdict_of result ≡ curves_verdict kind counts mwh.now prices.now }
 {
     check_curves(kind, counts, mwh, prices)?;
