@@ -104,6 +104,7 @@ fn wheel_finished(
 
 // ---- by kind
 
+#[tactic(auto, unfolding(crate::specs::Stages::posted_requirement, kinds::specs::Kinds::by_kind))]
 fn posted_requirement(
     kind: u64,
     differential: u64,
@@ -118,15 +119,13 @@ fn posted_requirement(
     match kind {
         Kind::IMPORT => unless_exempt(exempt, import_posted(schedule, differential)),
         Kind::EXPORT => export_posted(schedule, price, differential),
-        // Neither this nor a quarter-hour export is ever posted, and two sides not by this: its row refuses first.
-        Kind::HOUR_AHEAD_EXPORT => 0,
         Kind::WHEEL => wheel_posted(schedule, price, second),
-        Kind::QUARTER_HOUR_EXPORT => 0,
-        Kind::VIRTUAL => 0,
+        // No Hour-Ahead export is ever posted, and two sides not by this: the rows refuse first.
         _ => 0,
     }
 }
 
+#[tactic(auto, unfolding(crate::specs::Stages::finished_requirement, kinds::specs::Kinds::by_kind))]
 fn finished_requirement(
     kind: u64,
     exempt: bool,
@@ -143,10 +142,9 @@ fn finished_requirement(
     match kind {
         Kind::IMPORT => unless_exempt(exempt, import_finished(schedule, day_ahead, actual, price)),
         Kind::EXPORT => export_finished(posted_cents, schedule, actual, price),
-        Kind::HOUR_AHEAD_EXPORT => hour_ahead_finished(actual, price),
+        Kind::HOUR_AHEAD_EXPORT | Kind::QUARTER_HOUR_EXPORT => hour_ahead_finished(actual, price),
         Kind::WHEEL => wheel_finished(posted_cents, schedule, actual, price, second),
-        Kind::QUARTER_HOUR_EXPORT => hour_ahead_finished(actual, price),
-        Kind::VIRTUAL => 0,
+        // Two sides never finish: their row refuses first.
         _ => 0,
     }
 }

@@ -1,5 +1,5 @@
 -- `formulas::stages::posted`: the posted amount's rows, and the requirement that they leave.
-use mathlib.Core.Path.{◌≡◌, ◌∙◌}
+use mathlib.Core.Path.{◌∙◌}
 use mathlib.Core.List.{◌∷◌}
 use mir.Syntax.{w64}
 use mir.Facts.{to_z-of_z}
