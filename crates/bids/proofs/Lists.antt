@@ -3,10 +3,10 @@
 use mathlib.Core.Path.{◌≡◌, refl, ap, ◌∙◌}
 use mathlib.Core.Bool.{Bool, true, false, ◌&&◌}
 use mathlib.Core.List.{List, [], ◌∷◌, ◌++◌, map}
-use Prim.Native.Nat.{ℕ, suc, ◌≤◌}
+use Prim.Native.Nat.{ℕ, ◌≤◌}
 use lib.Dec.{leb, eqb}
 use lib.IntN.{ℤ}
-use lib.ListN.{length}
+use lib.ListN.{length, length-map}
 use borrow.Author.Tests.{le-leb, eq-eqb}
 use Rattle.amounts.specs.Limits.{between}
 use Rattle.amounts.specs.Lists.{every}
@@ -25,10 +25,6 @@ curve-of [] = refl
 curve-of (q ∷ qs) = ap (λ (l : List Point). q ∷ l) (curve-of qs)
 
 module _ {A B : Type 0} (f : A → B) where
-  pub map-length : (l : List A) → length (map f l) ≡ length l
-  map-length [] = refl
-  map-length (x ∷ xs) = ap suc (map-length xs)
-
   pub every_map : (t : B → Bool) (l : List A) → every t (map f l) ≡ every (λ x. t (f x)) l
   unfolding every
   every_map t [] = refl
@@ -46,5 +42,5 @@ every_append t (x ∷ xs) ys = ap (λ (b : Bool). t x && b) (every_append t xs y
 -- row 5 does not apply to 1 to 64 points
 pub counted : (l : List Point) → 1 ≤ length l → length l ≤ 64 → (between 1 64 (length (mwhs_of l)) && eqb (length (mwhs_of l)) (length (prices_of l))) ≡ true
 counted l some few =
-    rw (map-length (λ (q : Point). q.mwh) l, map-length (λ (q : Point). q.price) l)
+    rw (length-map l (λ (q : Point). q.mwh), length-map l (λ (q : Point). q.price))
     (and_both (leb 1 (length l) && leb (length l) 64) (eqb (length l) (length l)) (and_both (leb 1 (length l)) (leb (length l) 64) (le-leb 1 (length l) some) (le-leb (length l) 64 few)) (eq-eqb (length l) (length l) refl))

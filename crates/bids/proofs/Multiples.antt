@@ -8,6 +8,7 @@ use Prim.Native.Nat.{ℕ, ◌*◌, ◌≤◌, ◌<◌, max}
 use native.Mathlib.Nat.{le_of_lt, max-eq_left, max-eq_right, mul-le-mul_left, mul-add, mul-zero, mul_assoc, mul_left_comm}
 use native.Mathlib.Omega.{arith}
 use lib.Dec.{leb, eqb}
+use lib.ListN.{length-map}
 use lib.IntN.{ℤ, pos, neg_ℤ, ◌*ℤ◌}
 use lib.Signed.{le_z}
 use borrow.Author.Tests.{leb-true, eqb-true, eqb-false}
@@ -24,7 +25,7 @@ use Rattle.bids.specs.Rows.{point_rows, bid_rows}
 use Rattle.bids.proofs.Largest.{apart, exposure-is, exposure-only}
 use Rattle.bids.proofs.Curves.{fit, fit-bid}
 use Rattle.bids.proofs.Joining.{export-cents}
-use Rattle.bids.proofs.Lists.{mwhs_of, prices_of, map-length, counted}
+use Rattle.bids.proofs.Lists.{mwhs_of, prices_of, counted}
 
 max-times : (n a b : ℕ) → max (n * a) (n * b) ≡ n * max a b
 max-times n a b =
@@ -135,8 +136,8 @@ unfolding bid_rows point_rows None
 multiple-rows kind n l d h limit =
     let b = fit-bid kind (mwhs_of l) (prices_of l) d h in
     let f = fit b.0 in
-    let size = map-length {B = Point} (λ (q : Point). record { mwh = n * q.mwh; price = q.price }) l in
-    let own = map-length (λ (q : Point). q.mwh) l in (
+    let size = length-map {B = Point} l (λ (q : Point). record { mwh = n * q.mwh; price = q.price }) in
+    let own = length-map l (λ (q : Point). q.mwh) in (
       h.0,
       (
         ap not (counted (multiple n l) (omega (arith, f.some, size, own)) (omega (arith, f.few, size, own))),

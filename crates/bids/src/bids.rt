@@ -60,6 +60,7 @@ fn bid_mwh(kind: u64, points: Curve) -> u64
     }
 }
 
+#[tactic(auto, unfolding(crate::specs::Bids::bid_requirement, kinds::specs::Kinds::by_kind))]
 fn bid_requirement(kind: u64, points: Curve, differential: u64, exempt: bool) -> i64
     requires { is_differential differential ≡ true }
     ensures { result ≡ bid_requirement kind (curve points.entry.mwh.now points.entry.prices.now) differential exempt }
@@ -69,9 +70,7 @@ fn bid_requirement(kind: u64, points: Curve, differential: u64, exempt: bool) ->
         Kind::EXPORT => export_bid(points, differential),
         Kind::HOUR_AHEAD_EXPORT => hour_ahead_bid(points),
         Kind::WHEEL => points.wheel_exposure(),
-        // It bids by four curves: its row refuses first.
-        Kind::QUARTER_HOUR_EXPORT => 0,
-        Kind::VIRTUAL => 0,
+        // A quarter-hour export bids by four curves and two sides by none: their row refuses first.
         _ => 0,
     }
 }

@@ -47,10 +47,14 @@ quarter_up cents = pos ((up cents + 3) / 4)
 unfoldable pub closed_requirement : Intervals → Quote → ℤ
 closed_requirement s q = quarter_up (hour_cents s q)
 
+-- each of the four is a price
+abbrev pub prices_fit : Quote → Bool
+prices_fit q = is_price q.first && is_price q.second && is_price q.third && is_price q.fourth
+
 -- the entry: 6 of the sums, 7 of the prices
 unfoldable pub closed_rows : Intervals → Quote → List Row
 closed_rows s q =
-    row 6 (not (intervals_fit s)) ∷ row 7 (not (is_price q.first && is_price q.second && is_price q.third && is_price q.fourth)) ∷ []
+    row 6 (not (intervals_fit s)) ∷ row 7 (not (prices_fit q)) ∷ []
 
 unfoldable pub closed_verdict : Intervals → Quote → Verdict ℤ
 closed_verdict s q = judge (closed_rows s q) (closed_requirement s q)

@@ -6,7 +6,6 @@ ghost use Rattle.refusals.specs.Refusals.{None, judge, verdict_of};
 ghost use Rattle.closings.specs.Closings.{hour_cents, quarter_up, closed_rows, closed_verdict};
 
 use crate::types::Quote;
-use amounts::Price;
 use intervals::types::Intervals;
 use refusals::{Refusal, refuse_if};
 
@@ -16,17 +15,7 @@ fn check_closed(sums: Intervals, quote: Quote) -> Result<(), Refusal>
     ensures { verdict_of result ≡ judge (closed_rows sums quote) tt }
 {
     refuse_if(!sums.in_range(), Refusal::Quantity)?;
-    let priced = Price { cents: quote.first }.in_range()
-        & Price {
-            cents: quote.second,
-        }
-        .in_range()
-        & Price { cents: quote.third }.in_range()
-        & Price {
-            cents: quote.fourth,
-        }
-        .in_range();
-    refuse_if(!priced, Refusal::Price)
+    refuse_if(!quote.in_range(), Refusal::Price)
 }
 
 // The MWh of an interval at its price.

@@ -3,7 +3,6 @@
 use mathlib.Core.Path.{◌≡◌, ap, ◌∙◌}
 use mathlib.Core.Bool.{true, ◌&&◌}
 use Prim.Native.Nat.{ℕ}
-use native.Mathlib.Omega.{arith}
 use lib.IntN.{ℤ, pos}
 use mir.Syntax.{w64}
 use mir.Val.{SFits, to_z, of_z}
@@ -11,7 +10,7 @@ use mir.Facts.{to_z-of_z}
 use borrow.Author.Tests.{leb-true, le-leb, not-false}
 use Rattle.amounts.specs.Limits.{is_quantity, is_price, is_differential, is_pending}
 use Rattle.amounts.proofs.Signed.{range-true}
-use Rattle.amounts.proofs.Steps.{Known, param, quantity}
+use Rattle.amounts.proofs.Steps.{Known, read, quantity}
 use Rattle.refusals.specs.Refusals.{None}
 use Rattle.refusals.proofs.Laws.{and_left, and_right}
 use Rattle.kinds.specs.Kinds.{rules_of, differential_fits, pending_fits, prices_fit}
@@ -20,26 +19,20 @@ use Rattle.deliveries.specs.Rows.{delivery_rows, posted_rows, finished_rows}
 
 -- ---- a parameter that passed its test, as the code reads it
 
--- a quantity and a differential after `as i64`, and that the cast loses nothing
+-- a quantity and a differential after `as i64`
 pub mwh : (n : ℕ) → is_quantity n ≡ true → Known (to_z w64 n) (pos n) 0 640000
 mwh n h = quantity (leb-true n 640000 h) tt
-
-pub mwh-cast : (n : ℕ) → is_quantity n ≡ true → SFits w64 (pos n)
-mwh-cast n h = record { sfits = omega (arith, leb-true n 640000 h) }
 
 pub differential : (n : ℕ) → is_differential n ≡ true → Known (to_z w64 n) (pos n) 0 1000000
 differential n h = quantity (leb-true n 1000000 h) tt
 
-pub differential-cast : (n : ℕ) → is_differential n ≡ true → SFits w64 (pos n)
-differential-cast n h = record { sfits = omega (arith, leb-true n 1000000 h) }
+pub price : (z : ℤ) → is_price z ≡ true → Known (to_z w64 (of_z w64 z)) z 1000000 1000000
+price z h = read (range-true 1000000 1000000 z h) tt
 
-pub price : {z : ℤ} → SFits w64 z → is_price z ≡ true → Known (to_z w64 (of_z w64 z)) z 1000000 1000000
-price {z} f h = param f (range-true 1000000 1000000 z h)
+pub pending : (z : ℤ) → is_pending z ≡ true → Known (to_z w64 (of_z w64 z)) z 0 640000000000
+pending z h = read (range-true 0 640000000000 z h) tt
 
-pub pending : {z : ℤ} → SFits w64 z → is_pending z ≡ true → Known (to_z w64 (of_z w64 z)) z 0 640000000000
-pending {z} f h = param f (range-true 0 640000000000 z h)
-
--- and handed on to a call
+-- and handed on
 pub handed-price : {z : ℤ} → SFits w64 z → is_price z ≡ true → is_price (to_z w64 (of_z w64 z)) ≡ true
 handed-price f h = ap is_price (to_z-of_z f) ∙ h
 

@@ -2,7 +2,7 @@
 -- Assumes nothing.
 use mathlib.Core.Path.{◌≡◌, refl, sym, ap, subst, ◌∙◌}
 use mathlib.Core.Bool.{Bool, true, false}
-use mathlib.Core.List.{List, ◌∷◌}
+use mathlib.Core.List.{◌∷◌}
 use mathlib.Core.Logic.{◌⊎◌, inl, inr, ⊎_elim}
 use Prim.Native.Nat.{ℕ, ◌*◌, ◌-◌, ◌≤◌}
 use native.Mathlib.Omega.{arith}
@@ -12,15 +12,15 @@ use lib.IntN.{ℤ, pos, neg_ℤ, ◌+ℤ◌, ◌-ℤ◌, ◌*ℤ◌}
 use Rattle.amounts.specs.Amount.{up, down, max_of, Range, in_range}
 use Rattle.amounts.specs.Limits.{is_point_mwh, is_quantity, is_price, is_differential, is_pending, is_finished}
 use Rattle.amounts.proofs.Signed.{signed, up_neg, down-neg, sub-flip, neg-mul, sum_of, difference-of, larger-of, times-of, mul_mono, max-gap, tested, range-true, range-wider, range-add, range-sub, range-max, range-times, range-mul}
-use Rattle.refusals.specs.Refusals.{accept, None, judge}
+use Rattle.refusals.specs.Refusals.{accept, None}
 use Rattle.refusals.proofs.Laws.{judge-none}
 use Rattle.kinds.specs.declared.Rules.{Rules}
 use Rattle.kinds.specs.Kinds.{wheel, is_kind, kind_row, by_kind, rules_of, import_rules, export_rules, hour_ahead_rules, wheel_rules, quarter_hour_rules, virtual_rules, bid_mwh_fits, pending_fits}
 use Rattle.kinds.proofs.ByKind.{by-kind, rules-1, rules-2, rules-3, rules-4, rules-5, rules-6}
 use Rattle.kinds.proofs.Fits.{range-test, pending-range, pending-bid, pending-wheel, exempt-range}
 use Rattle.formulas.specs.Stages.{import_posted, balancing, import_finished, export_posted, export_finished, hour_ahead_finished, wheel_posted, wheel_finished, posted_requirement, finished_requirement}
-use Rattle.deliveries.specs.Rows.{posted_rows, finished_rows, bill_rows}
-use Rattle.formulas.specs.Entries.{posted_verdict, finished_verdict, billed_verdict}
+use Rattle.deliveries.specs.Rows.{posted_rows, finished_rows}
+use Rattle.formulas.specs.Entries.{posted_verdict, finished_verdict}
 use Rattle.formulas.proofs.Given.{posting, finish}
 
 nothing : Range 0 0 (pos 0)

@@ -1,7 +1,7 @@
 -- What it means that no row refuses four curves: their counts are in range, and so are their four sums. What is then answered.
 -- Assumes nothing.
 use mathlib.Core.Path.{◌≡◌, refl, ap}
-use mathlib.Core.Bool.{Bool, true, false, ◌&&◌}
+use mathlib.Core.Bool.{Bool, true, ◌&&◌}
 use mathlib.Core.List.{List, ◌∷◌}
 use Prim.Native.Nat.{ℕ, ◌≤◌}
 use lib.Dec.{leb, eqb}
@@ -13,7 +13,7 @@ use Rattle.amounts.specs.Lists.{every}
 use Rattle.refusals.specs.Refusals.{Verdict, accept, judge, None}
 use Rattle.refusals.proofs.Laws.{numbered, and_left, and_right, none_applied, judge-none}
 use Rattle.kinds.specs.Kinds.{rules_of, kind_row}
-use Rattle.intervals.specs.Intervals.{Counts, Intervals, after_first, after_second, after_third, points, intervals_of, counts_fit, curves_rows, curves_verdict, no_intervals, intervals_in, intervals_fit, is_none}
+use Rattle.intervals.specs.Intervals.{Counts, Intervals, after_first, after_second, after_third, points, intervals_of, short, counts_fit, curves_rows, curves_verdict, no_intervals, intervals_in, intervals_fit, is_none}
 use Rattle.intervals.proofs.Sums.{interval-small}
 
 -- ---- four tests at once
@@ -55,14 +55,7 @@ none-eq s h =
     let e = each (eqb s.first 0) (eqb s.second 0) (eqb s.third 0) (eqb s.fourth 0) h in
     λ j. record { first = eqb-true s.first 0 e.first j; second = eqb-true s.second 0 e.second j; third = eqb-true s.third 0 e.third j; fourth = eqb-true s.fourth 0 e.fourth j }
 
-pub fit-each : (s : Intervals) → intervals_fit s ≡ true → Within 640000 s.first s.second s.third s.fourth
-fit-each s h = within 640000 s.first s.second s.third s.fourth h
-
 -- ---- the counts
-
--- no interval is too long
-abbrev short : Counts → Bool
-short c = leb c.first 64 && leb c.second 64 && leb c.third 64 && leb c.fourth 64
 
 module _ (c : Counts) where
   pub counts-short : short c ≡ true → Within 64 c.first c.second c.third c.fourth
@@ -70,12 +63,6 @@ module _ (c : Counts) where
 
   pub counts-few : counts_fit c ≡ true → Within 64 c.first c.second c.third c.fourth
   counts-few h = counts-short (and_left (short c) (leb 1 (points c)) h)
-
-  pub counts-long : short c ≡ false → false ≡ counts_fit c
-  counts-long h = rw h
-
-  pub counts_some : short c ≡ true → leb 1 (points c) ≡ counts_fit c
-  counts_some h = rw h
 
 -- ---- the rows
 
@@ -129,13 +116,6 @@ module _ (kind : ℕ) (c : Counts) (mwhs : List ℕ) (prices : List ℤ) where
         third = interval-small (after_second c) c.third mwhs f.mwhs few.third;
         fourth = interval-small (after_third c) c.fourth mwhs f.mwhs few.fourth;
       })
-
-  -- a kind of one curve or counts out of range, and else what the lengths say
-  pub not-counted : ((rules_of kind).intervals && counts_fit c) ≡ false → false ≡ counted_of kind c mwhs prices
-  not-counted h = rw h
-
-  pub counted-by : ((rules_of kind).intervals && counts_fit c) ≡ true → (eqb (length mwhs) (points c) && eqb (length prices) (points c)) ≡ counted_of kind c mwhs prices
-  counted-by h = rw h
 
   -- ---- what is answered
 

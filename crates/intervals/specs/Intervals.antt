@@ -39,9 +39,13 @@ intervals_of c mwhs =
 
 -- ---- what turns four curves away
 
--- 'An interval has 0 to 64 points'; not 'all four empty'
+-- 'An interval has 0 to 64 points'
+abbrev pub short : Counts → Bool
+short c = leb c.first 64 && leb c.second 64 && leb c.third 64 && leb c.fourth 64
+
+-- and not 'all four empty'
 abbrev pub counts_fit : Counts → Bool
-counts_fit c = leb c.first 64 && leb c.second 64 && leb c.third 64 && leb c.fourth 64 && leb 1 (points c)
+counts_fit c = short c && leb 1 (points c)
 
 -- 5 'an interval too long, all four empty', lists that have not so many points, and a kind that bids by one curve; 6 and 7 as of one curve
 unfoldable pub curves_rows : ℕ → Counts → List ℕ → List ℤ → List Row

@@ -4,33 +4,34 @@ ghost use Rattle.amounts.specs.Limits.{is_point_mwh};
 ghost use Rattle.amounts.specs.Lists.{every};
 ghost use Rattle.refusals.specs.Refusals.{judge, verdict_of};
 ghost use Rattle.kinds.specs.Kinds.{rules_of, kind_row};
-ghost use Rattle.intervals.specs.Intervals.{counts_fit, points as points_of, interval_mwh, intervals_of, curves_rows, curves_verdict};
+ghost use Rattle.intervals.specs.Intervals.{short, counts_fit, points as points_of, interval_mwh, intervals_of, curves_rows, curves_verdict};
 
 use crate::types::{Counts, Intervals};
 use kinds::Kind;
 use refusals::{Refusal, refuse_if};
 
 impl Counts {
+    // No interval is too long.
+    fn are_short(self) -> bool
+        ensures { result ≡ short self }
+    {
+        [self.first, self.second, self.third, self.fourth]
+            .iter()
+            .all(|&count| count <= Counts::MAX)
+    }
+
+    fn points(self) -> u64
+        requires { short self ≡ true }
+        ensures { result ≡ points_of self }
+    {
+        self.first + self.second + self.third + self.fourth
+    }
+
     // No interval is too long, and not all are empty.
     fn in_range(self) -> bool
         ensures { result ≡ counts_fit self }
     {
-        let short = (self.first <= Counts::MAX)
-            & (self.second <= Counts::MAX)
-            & (self.third <= Counts::MAX)
-            & (self.fourth <= Counts::MAX);
-        // Past this their sum is no more than four times the limit.
-        if !short {
-            return false;
-        }
-        1 <= self.first + self.second + self.third + self.fourth
-    }
-
-    fn points(self) -> u64
-        requires { counts_fit self ≡ true }
-        ensures { result ≡ points_of self }
-    {
-        self.first + self.second + self.third + self.fourth
+        self.are_short() && 1 <= self.points()
     }
 }
 
@@ -39,12 +40,10 @@ fn counted(kind: u64, counts: Counts, mwh: &[u64], prices: &[i64]) -> bool
     ensures { result ≡ ((rules_of kind).intervals && counts_fit counts && eqb (length mwh.now) (points_of counts) && eqb (length prices.now) (points_of counts)) }
 {
     let rules = Kind { number: kind }.rules();
-    // A sum of counts out of range may not fit.
-    if !(rules.intervals & counts.in_range()) {
-        return false;
-    }
-    let points = counts.points();
-    (mwh.len() as u64 == points) & (prices.len() as u64 == points)
+    rules.intervals
+        && counts.in_range()
+        && mwh.len() as u64 == counts.points()
+        && prices.len() as u64 == counts.points()
 }
 
 // Refusals 2 and 5 to 7, in the table's order.

@@ -1,5 +1,5 @@
 -- `formulas::stages::posted`: the posted amount's rows, and the requirement that they leave.
-use mathlib.Core.Path.{◌≡◌, ◌∙◌}
+use mathlib.Core.Path.{◌∙◌}
 use mathlib.Core.List.{◌∷◌}
 use mir.Syntax.{w64}
 use mir.Facts.{to_z-of_z}
@@ -10,6 +10,7 @@ use Rattle.refusals.proofs.Laws.{handed_on, refused_too, accepted_too, none_appl
 use Rattle.kinds.specs.Kinds.{kind_row}
 use Rattle.deliveries.specs.Rows.{posted_rows}
 use Rattle.deliveries.proofs.Numbered.{posted-rows-numbered}
+use Rattle.formulas.proofs.Given.{handed-price, posting}
 use Rattle.formulas.specs.Entries.{posted_verdict}
 use Rattle.formulas.proofs.stages.posted.Goals as goal
 
@@ -20,20 +21,26 @@ returns-in_err-check_posted c =
     handed_on _ c.in_err-check_posted.field-0.0 (search rules)
     ∙ refused_too (kind_row a.kind ∷ posted_rows a.kind a.differential a.schedule a.price a.second) _ (tt {0}) _ (rw (to_z-of_z {w = w64} c.ranges.price, to_z-of_z {w = w64} c.ranges.second) at c.in_err-check_posted.ensures)
 
-pub posted_requirement-requires : goal.posted_requirement-requires
+pub invariant_of-post : goal.invariant_of-post
 unfolding None
-posted_requirement-requires c =
+invariant_of-post c =
     let a = c.args in
     let none = none_applied (kind_row a.kind ∷ posted_rows a.kind a.differential a.schedule a.price a.second) (tt {0}) _ (posted-rows-numbered a.kind a.differential a.schedule a.price a.second) (rw (to_z-of_z {w = w64} c.ranges.price, to_z-of_z {w = w64} c.ranges.second) at c.in_ok-check_posted.ensures) in
-    rw (to_z-of_z {w = w64} c.ranges.price, to_z-of_z {w = w64} c.ranges.second) none.1
+    let g = posting a.kind a.differential a.schedule a.price a.second none.1 in
+    record {
+      differential_value = g.differential;
+      schedule_value = g.schedule;
+      price_value = handed-price c.ranges.price g.prices.first;
+      second_value = handed-price c.ranges.second g.prices.second;
+    }
 
 pub returns : goal.returns
 unfolding posted_verdict
 returns c =
     let a = c.args in
     rw (
-      back c.posted_requirement.result c.posted_requirement.type_inv,
-      c.posted_requirement.ensures,
+      back c.requirement.result c.requirement.type_inv,
+      c.requirement.ensures,
       to_z-of_z {w = w64} c.ranges.price,
       to_z-of_z {w = w64} c.ranges.second,
     )
