@@ -33,12 +33,8 @@ pub fn key_of(message: Message) -> Key
     }
 }
 
-pub fn plan_of(
-    message: Message,
-    old: Record,
-    mwh: &[u64],
-    prices: &[i64],
-) -> Result<Deed, Refusal>
+#[tactic(auto, unfolding(messages::specs::Plan::plan))]
+pub fn plan_of(message: Message, old: Record, mwh: &[u64], prices: &[i64]) -> Result<Deed, Refusal>
     ensures { verdict_of result ≡ plan old message mwh.now prices.now }
 {
     match message {

@@ -10,6 +10,7 @@ use messages::types::{Billing, Change, Deed, Message};
 use records::types::Record;
 use refusals::Refusal;
 
+#[tactic(auto, unfolding(messages::specs::Plan::plan, keys::specs::Keys::key_rows, deliveries::specs::Rows::bill_rows, messages::specs::Plan::stage_rows, refusals::specs::Refusals::judge, refusals::specs::Refusals::answered, refusals::specs::Refusals::first))]
 pub fn bill(billing: Billing, old: Record) -> Result<Deed, Refusal>
     ensures { verdict_of result ≡ plan old (Message.Bill billing) [] [] }
 {

@@ -12,6 +12,7 @@ use records::types::Record;
 use refusals::Refusal;
 
 // From one stage: a withdrawal's or a payment's.
+#[tactic(auto, unfolding(keys::specs::Keys::key_rows, messages::specs::Plan::stage_rows, refusals::specs::Refusals::judge, refusals::specs::Refusals::answered, refusals::specs::Refusals::first))]
 fn remove(key: Key, old: Record, stage: u64) -> Result<Deed, Refusal>
     ensures { verdict_of result ≡ judge (key_rows key ++ stage_rows old (eqb old.stage stage)) (Deed.Keyed (Change.Remove key)) }
 {

@@ -24,6 +24,7 @@ fn sides_cents(posting: SidesPosting, old: Record) -> i64
     cents_or_zero(virtuals::posted(load, supply))
 }
 
+#[tactic(auto, unfolding(messages::specs::Plan::plan, keys::specs::Keys::key_rows, virtuals::specs::Virtuals::mwh_rows, messages::specs::Plan::stage_rows, refusals::specs::Refusals::judge, refusals::specs::Refusals::answered, refusals::specs::Refusals::first))]
 pub fn post_sides(posting: SidesPosting, old: Record) -> Result<Deed, Refusal>
     ensures { verdict_of result ≡ plan old (Message.PostSides posting) [] [] }
 {

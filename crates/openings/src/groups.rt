@@ -1,13 +1,15 @@
 // A bid of one curve: opened, and revised.
-ghost use Rattle.std.specs.Prelude.{◌≡◌};
-ghost use Rattle.refusals.specs.Refusals.{verdict_of};
-ghost use Rattle.messages.specs.Plan.{opened_record, plan};
+ghost use Rattle.std.specs.Prelude.{◌≡◌, ◌++◌};
+ghost use Rattle.refusals.specs.Refusals.{judge, verdict_of};
+ghost use Rattle.keys.specs.Keys.{key_rows};
+ghost use Rattle.bids.specs.Rows.{bid_rows};
+ghost use Rattle.messages.specs.Plan.{opened_record, bid_for, plan};
 
-use kinds::{Kind, Stage};
-use messages::check_stage;
+use crate::places::{opened, revised};
+use kinds::Kind;
 use messages::types::{Change, Deed, Message, Opening};
 use records::types::Record;
-use refusals::{Bid, Refusal, refuse_if};
+use refusals::{Bid, Refusal};
 
 // The record at stage 1.
 fn opened_record(opening: Opening, bid: Bid) -> Record
@@ -27,8 +29,10 @@ fn opened_record(opening: Opening, bid: Bid) -> Record
     )
 }
 
-pub fn open(opening: Opening, old: Record, mwh: &[u64], prices: &[i64]) -> Result<Deed, Refusal>
-    ensures { verdict_of result ≡ plan old (Message.Open opening) mwh.now prices.now }
+// What an open and a revise leave.
+#[tactic(auto, unfolding(keys::specs::Keys::key_rows, bids::specs::Rows::bid_rows, bids::specs::Rows::point_rows, bids::specs::Entries::bid_verdict, messages::specs::Plan::bid_for, refusals::specs::Refusals::judge, refusals::specs::Refusals::answered, refusals::specs::Refusals::first))]
+fn made(opening: Opening, mwh: &[u64], prices: &[i64]) -> Result<Record, Refusal>
+    ensures { verdict_of result ≡ judge (key_rows opening.key ++ bid_rows opening.key.kind mwh.now prices.now opening.differential) (opened_record opening (bid_for opening mwh.now prices.now)) }
 {
     opening.key.check()?;
     let bid = bids::bid(
@@ -38,22 +42,19 @@ pub fn open(opening: Opening, old: Record, mwh: &[u64], prices: &[i64]) -> Resul
         opening.differential,
         opening.exempt,
     )?;
-    refuse_if(!old.is_free(), Refusal::AlreadyOpen)?;
-    Ok(Deed::Keyed(Change::Add(opened_record(opening, bid))))
+    Ok(opened_record(opening, bid))
+}
+
+pub fn open(opening: Opening, old: Record, mwh: &[u64], prices: &[i64]) -> Result<Deed, Refusal>
+    ensures { verdict_of result ≡ plan old (Message.Open opening) mwh.now prices.now }
+{
+    let made = made(opening, mwh, prices)?;
+    opened(old, Change::Add(made))
 }
 
 pub fn revise(opening: Opening, old: Record, mwh: &[u64], prices: &[i64]) -> Result<Deed, Refusal>
     ensures { verdict_of result ≡ plan old (Message.Revise opening) mwh.now prices.now }
 {
-    opening.key.check()?;
-    let bid = bids::bid(
-        opening.key.kind,
-        mwh,
-        prices,
-        opening.differential,
-        opening.exempt,
-    )?;
-    check_stage(old, old.stage == Stage::BID)?;
-    let made = opened_record(opening, bid);
-    Ok(Deed::Keyed(Change::Rebid(old.requirement, made)))
+    let made = made(opening, mwh, prices)?;
+    revised(old, made)
 }

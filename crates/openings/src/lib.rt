@@ -3,6 +3,7 @@
 
 mod curves;
 mod groups;
+mod places;
 mod sides;
 
 pub use curves::{open_curves, revise_curves};
