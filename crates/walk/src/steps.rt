@@ -44,9 +44,8 @@ impl Walk {
     pub fn old(self, records: &[Record; 256]) -> Record
         ensures { result ≡ under self records.now }
     {
-        match self.at {
-            Some(place) if place < records.len() => records[place],
-            _ => Record::blank(),
-        }
+        self.at
+            .and_then(|place| records.get(place).copied())
+            .unwrap_or(Record::blank())
     }
 }
