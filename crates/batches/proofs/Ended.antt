@@ -31,12 +31,12 @@ module _ (hour : ℕ) (paths : List ℕ) (prices : List ℤ) (rs : List Record) 
   pub matched : not test ≡ false → unmatched hour paths rs ≡ false
   matched t = not-true (unmatched hour paths rs) (sym test-is ∙ not-false test t)
 
-  pub refused : (account : Account) {held owed : ℤ} → not test ≡ true → held ≡ account.held → owed ≡ account.owed
-      → record { records = rs; account = account; answer = Refused 11 held owed } ≡ closed_by account hour paths prices rs
+  pub refused : (account : Account) {n : ℕ} {held owed : ℤ} → not test ≡ true → n ≡ 11 → held ≡ account.held → owed ≡ account.owed
+      → record { records = rs; account = account; answer = Refused n held owed } ≡ closed_by account hour paths prices rs
   unfolding closed_by refused_by
-  refused account t h o =
+  refused account t number h o =
       let row = not-false (unmatched hour paths rs) (sym test-is ∙ not-true test t) in
-      rw row (λ i. record { records = rs; account = account; answer = Refused 11 (h i) (o i) })
+      rw row (λ i. record { records = rs; account = account; answer = Refused (number i) (h i) (o i) })
 
 -- ---- the two ends
 module _ (account : Account) (hour : ℕ) (paths : List ℕ) (prices : List ℤ) (rs : List Record) where

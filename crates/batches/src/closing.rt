@@ -12,7 +12,7 @@ use crate::batch::Listing;
 use crate::types::{Batch, Closed};
 use credit::types::Account;
 use records::types::Record;
-use refusals::Answer;
+use refusals::{Answer, Refusal};
 
 // What all places bring to the batch.
 fn seen(records: &[Record; 256], listing: Listing) -> Batch
@@ -67,7 +67,7 @@ pub fn close(
             records,
             account,
             answer: Answer::Refused {
-                number: 11,
+                number: Refusal::NotOpen.number(),
                 held: account.held,
                 owed: account.owed,
             },
@@ -88,11 +88,7 @@ pub fn close(
     }
     Closed {
         records: next,
-        account: Account {
-            support: account.support,
-            held,
-            owed: account.owed,
-        },
+        account: Account { held, ..account },
         answer: Answer::Accepted {
             requirement: batch.cents,
             held,

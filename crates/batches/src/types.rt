@@ -15,6 +15,7 @@ pub struct Batch {
 }
 
 // The places after a close, what is kept beside them, and the answer.
+// In its parts, and no `book::Outcome`: this crate stands below `book`.
 #[derive(Clone, Copy)]
 pub struct Closed {
     pub records: [Record; 256],

@@ -9,7 +9,7 @@ use keys::Key;
 use messages::types::{
     Billing, Closing, Curves, Finishing, Funding, Message, Opening, Posting, Sides, SidesPosting,
 };
-use refusals::Answer;
+use refusals::{Answer, Refusal};
 use walk::code;
 use walk::types::Walk;
 
@@ -32,7 +32,7 @@ impl Book {
                 return Outcome {
                     book: next,
                     answer: Answer::Refused {
-                        number: 1,
+                        number: Refusal::Unsound.number(),
                         held: 0,
                         owed: 0,
                     },
@@ -60,9 +60,7 @@ impl Book {
     fn without_points(self, message: Message) -> Outcome
         ensures { result ≡ step self message [] [] }
     {
-        let mwh: [u64; 0] = [];
-        let prices: [i64; 0] = [];
-        self.apply(message, &mwh, &prices)
+        self.apply(message, &[], &[])
     }
 
     pub fn open(self, opening: Opening, mwh: &[u64], prices: &[i64]) -> Outcome
@@ -112,6 +110,7 @@ impl Book {
     {
         self.without_points(Message::Support(funding))
     }
+
     // Of four interval curves, whose points stand one interval after another.
     pub fn open_curves(self, curves: Curves, mwh: &[u64], prices: &[i64]) -> Outcome
         ensures { result ≡ step self (Message.OpenCurves curves) mwh.now prices.now }

@@ -7,6 +7,7 @@ ghost use Rattle.book.specs.Books.{sound};
 ghost use Rattle.book.specs.Step.{outcome};
 
 use crate::types::{Book, Outcome};
+use batches::types::Closed;
 use messages::types::Deed;
 
 impl Book {
@@ -16,11 +17,11 @@ impl Book {
         requires none { None (close_rows hour paths.now prices.now) }
         ensures { result ≡ outcome self paths.now prices.now (judge (batch_rows hour paths.now self.records) (Deed.CloseHour hour)) }
     {
-        let places = self.records;
-        let closed = batches::close(places, self.account, hour, paths, prices);
-        let records = closed.records;
-        let account = closed.account;
-        let answer = closed.answer;
+        let Closed {
+            records,
+            account,
+            answer,
+        } = batches::close(self.records, self.account, hour, paths, prices);
         Outcome {
             book: Book { records, account },
             answer,

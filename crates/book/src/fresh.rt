@@ -8,17 +8,15 @@ use amounts::Amount;
 use credit::types::Account;
 use messages::types::Funding;
 use records::types::Record;
-use refusals::Answer;
+use refusals::{Answer, Refusal};
 
 impl Book {
     fn empty(support: i64) -> Book
         ensures { result ≡ empty_of support }
     {
-        let blank = Record::blank();
-        let account = Account::fresh(support);
         Book {
-            records: [blank; 256],
-            account,
+            records: [Record::blank(); 256],
+            account: Account::fresh(support),
         }
     }
 
@@ -40,7 +38,7 @@ impl Book {
         Outcome {
             book: Book::empty(0),
             answer: Answer::Refused {
-                number: 9,
+                number: Refusal::Amount.number(),
                 held: 0,
                 owed: 0,
             },
@@ -51,11 +49,9 @@ impl Book {
     pub fn rebuilt(support: i64, records: [Record; 256]) -> Book
         ensures { result ≡ rebuilt_of support records }
     {
-        let account = Account::fresh(support);
-        let totalled = account.summed(walk::sums_of(records));
         Book {
             records,
-            account: totalled,
+            account: Account::fresh(support).summed(walk::sums_of(records)),
         }
     }
 
@@ -67,32 +63,32 @@ impl Book {
     }
 
     // Credit held, as it is kept.
+    #[tactic(auto, unfolding(crate::specs::Books::held_shown))]
     pub fn held(self) -> i64
         ensures { result ≡ held_shown self }
     {
-        let account = self.account;
-        account.held
+        self.account.held
     }
 
     // The net billed amount, as it is kept.
+    #[tactic(auto, unfolding(crate::specs::Books::owed_shown))]
     pub fn net_owed(self) -> i64
         ensures { result ≡ owed_shown self }
     {
-        let account = self.account;
-        account.owed
+        self.account.owed
     }
 
     pub fn is_sound(self) -> bool
         ensures { result ≡ sound self }
     {
-        !(self.status().number() == 1)
+        self.status().number() != Refusal::Unsound.number()
     }
 
     // By the support and the net billed amount, as they are kept.
+    #[tactic(auto, unfolding(crate::specs::Books::suspended_shown))]
     pub fn suspended(self) -> bool
         ensures { result ≡ suspended_shown self }
     {
-        let account = self.account;
-        account.suspended()
+        self.account.suspended()
     }
 }

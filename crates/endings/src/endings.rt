@@ -1,6 +1,6 @@
 // All of a message's end but the writing, over what it sees of a book: a function that takes a book copies it.
 ghost use Rattle.std.specs.Prelude.{◌≡◌, true};
-ghost use Rattle.refusals.specs.Refusals.{verdict_of};
+ghost use Rattle.refusals.specs.Refusals.{number_of, verdict_of};
 ghost use Rattle.records.specs.Records.{ok_place};
 ghost use Rattle.credit.specs.NoOverflow.{SumsWithin};
 ghost use Rattle.endings.specs.Endings.{Summable, view_of, totals_of, credit_verdict, unwritten, turned_away, unsound, put_at, put_in, left_to, carried_out, ending_of, ended};
@@ -48,11 +48,10 @@ impl View {
         let amount = Amount {
             cents: account.support,
         };
-        let sums = walk.sums;
         View {
-            sound: amount.is_support() & distinct::all_distinct(codes) & account.keeps(sums),
+            sound: amount.is_support() & distinct::all_distinct(codes) & account.keeps(walk.sums),
             account,
-            sums,
+            sums: walk.sums,
             free: walk.free,
             at: walk.at,
             old,
@@ -62,20 +61,19 @@ impl View {
     fn totals(self) -> Totals
         ensures { result ≡ totals_of self }
     {
-        let account = self.account;
         Totals {
-            support: account.support,
-            held: account.held,
-            owed: account.owed,
+            support: self.account.support,
+            held: self.account.held,
+            owed: self.account.owed,
             full: self.free.is_none(),
         }
     }
 
-    fn refused(self, number: u64) -> Ending
-        ensures { result ≡ turned_away self number }
+    #[tactic(auto, unfolding(crate::specs::Endings::turned_away))]
+    fn refused(self, refusal: Refusal) -> Ending
+        ensures { result ≡ turned_away self (number_of refusal) }
     {
-        let account = self.account;
-        Ending::unwritten(refusing(number, account), account)
+        Ending::unwritten(refusing(refusal, self.account), self.account)
     }
 
     // A record in another's stead.
@@ -85,9 +83,7 @@ impl View {
         requires value { ok_place new ≡ true }
         ensures { result ≡ put_in self place was new }
     {
-        let account = self.account;
-        let sums = self.sums;
-        let next = account.summed(sums.without(was).with(new));
+        let next = self.account.summed(self.sums.without(was).with(new));
         Ending {
             answer: accepting(new.requirement, next),
             account: next,
@@ -111,8 +107,7 @@ impl View {
     fn funded(self, support: i64) -> Ending
         ensures { result ≡ carried_out self (Deed.SetSupport support) }
     {
-        let account = self.account;
-        let next = account.supported(support);
+        let next = self.account.supported(support);
         Ending::unwritten(accepting(0, next), next)
     }
 
@@ -120,11 +115,9 @@ impl View {
     fn left(self, hour: u64) -> Ending
         ensures { result ≡ left_to self hour }
     {
-        let account = self.account;
-        let answer = accepting(0, account);
         Ending {
-            answer,
-            account,
+            answer: accepting(0, self.account),
+            account: self.account,
             left: Left::Batch(hour),
         }
     }
@@ -134,7 +127,7 @@ impl View {
         ensures { result ≡ ending_of self (credit_verdict (totals_of self) deed) }
     {
         if let Err(refusal) = self.totals().check(deed) {
-            return self.refused(refusal.number());
+            return self.refused(refusal);
         }
         match deed {
             Deed::Keyed(change) => self.changed(change),
@@ -143,16 +136,16 @@ impl View {
         }
     }
 
+    #[tactic(auto, unfolding(crate::specs::Endings::unsound))]
     fn not_sound(self) -> Ending
         ensures { result ≡ unsound self }
     {
-        let account = self.account;
         let answer = Answer::Refused {
-            number: 1,
+            number: Refusal::Unsound.number(),
             held: 0,
             owed: 0,
         };
-        Ending::unwritten(answer, account)
+        Ending::unwritten(answer, self.account)
     }
 
     pub fn ending(self, plan: Result<Deed, Refusal>) -> Ending
@@ -163,7 +156,7 @@ impl View {
             return self.not_sound();
         }
         match plan {
-            Err(refusal) => self.refused(refusal.number()),
+            Err(refusal) => self.refused(refusal),
             Ok(deed) => self.carried(deed),
         }
     }

@@ -21,23 +21,22 @@ impl Walk {
     }
 
     // One place more, before those that were passed.
+    // How large the sums may be grows place by place, so it stands in each contract and is no invariant of `Sums`.
     pub fn with(self, r: Record, key: Key, place: usize) -> Walk
         requires sums_within { SumsWithin 400000000000000 self.sums }
         requires r_value { ok_place r ≡ true }
         ensures { result ≡ more self r key place }
     {
-        let sums = self.sums;
         if r.is_free() {
             return Walk {
-                sums,
                 free: Some(place),
-                at: self.at,
+                ..self
             };
         }
         Walk {
-            sums: sums.with(r),
-            free: self.free,
+            sums: self.sums.with(r),
             at: if r.is_at(key) { Some(place) } else { self.at },
+            ..self
         }
     }
 
@@ -45,9 +44,8 @@ impl Walk {
     pub fn old(self, records: &[Record; 256]) -> Record
         ensures { result ≡ under self records.now }
     {
-        match self.at {
-            Some(place) if place < records.len() => records[place],
-            _ => Record::blank(),
-        }
+        self.at
+            .and_then(|place| records.get(place).copied())
+            .unwrap_or(Record::blank())
     }
 }

@@ -57,7 +57,7 @@ returns-then-not-batch-paths c =
     let g = c.args in
     let paths = g.paths.now in
     let prices = g.prices.now in
-    refused g.hour paths prices g.records c.requires.records_value_2 (close-fits g.hour paths prices c.requires.none).once c.seen-batch.result c.seen-batch.ensures g.account (ap not c.if-not-batch-paths.true) (held-is g.account g.hour paths prices g.records (search rules) c.requires.within) (search rules)
+    refused g.hour paths prices g.records c.requires.records_value_2 (close-fits g.hour paths prices c.requires.none).once c.seen-batch.result c.seen-batch.ensures g.account (ap not c.if-not-batch-paths.true) c.number.ensures (held-is g.account g.hour paths prices g.records (search rules) c.requires.within) (search rules)
 
 pub overflow_add-held : goal.overflow_add-held
 overflow_add-held c =

@@ -3,7 +3,9 @@ use native.Mathlib.Omega.{arith}
 use mathlib.Core.Path.{◌≡◌, refl, sym, ◌∙◌, subst}
 use mathlib.Core.Bool.{true}
 use Prim.Native.Nat.{ℕ, ◌<◌, ◌≤◌, ◌-◌}
+use lib.IntN.{pos}
 use lib.ListN.{length, get_or, set, replicate}
+use Rattle.refusals.specs.declared.Answer.TheVariants.{Refused}
 use Rattle.records.specs.Records.{blank, ok_place}
 use mathlib.Core.List.{List}
 use Rattle.keys.specs.declared.Key.{Key}
@@ -33,7 +35,8 @@ returns-then-not-is_sound c =
     let b = c.args.self in
     let few : length b.records ≡ 256 = search rules in
     let bad = sym c.is_sound.ensures ∙ c.if-not-is_sound.true in
-    sym
+    (λ i. record { book = b; answer = Refused (c.number.ensures i) (pos 0) (pos 0) })
+    ∙ sym
     (unsound-step b c.args.message c.args.mwh.now c.args.prices.now
     (unsound-by b (out_of_range c.key_of-key.result b.records l.codes l.walk l.i _ few c.loop-i-test.true l.invariant refl bad)))
 

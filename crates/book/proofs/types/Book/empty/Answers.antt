@@ -8,4 +8,4 @@ use Rattle.book.proofs.types.Book.empty.Goals as goal
 
 pub returns : goal.returns
 unfolding no_records
-returns c = λ i. record { records = replicate 256 (c.blank-blank.ensures i); account = (c.fresh-account.ensures ∙ ap fresh_account (to_z-of_z c.ranges.support)) i }
+returns c = λ i. record { records = replicate 256 (c.blank.ensures i); account = (c.fresh.ensures ∙ ap fresh_account (to_z-of_z c.ranges.support)) i }

@@ -1,5 +1,5 @@
 -- `Book::fresh`: by the one test of the support.
-use mathlib.Core.Path.{◌≡◌, ◌∙◌, sym, ap}
+use mathlib.Core.Path.{◌∙◌, sym, ap}
 use lib.IntN.{pos}
 use mir.Facts.{to_z-of_z}
 use Rattle.amounts.specs.Limits.{is_support}
@@ -19,4 +19,4 @@ pub returns : goal.returns
 unfolding fresh
 returns c =
     let told = c.is_support.ensures ∙ ap is_support (to_z-of_z c.ranges.support) in
-    rw (sym told ∙ c.if-is_support.false) (λ i. record { book = c.empty-2.ensures i; answer = Refused 9 (pos 0) (pos 0) })
+    rw (sym told ∙ c.if-is_support.false) (λ i. record { book = c.empty-2.ensures i; answer = Refused (c.number.ensures i) (pos 0) (pos 0) })

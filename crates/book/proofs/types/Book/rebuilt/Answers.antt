@@ -10,8 +10,6 @@ use mir.Facts.{to_z-of_z}
 use Rattle.amounts.specs.Lists.{every}
 use Rattle.records.specs.declared.types.Record.{Record}
 use Rattle.records.specs.Records.{ok_place}
-use Rattle.credit.specs.declared.types.Account.{Account}
-use Rattle.credit.specs.declared.types.Sums.{Sums}
 use Rattle.credit.specs.Account.{fresh_account}
 use Rattle.credit.specs.Sums.{no_sums, sums_of, held_of, summed}
 use Rattle.credit.specs.NoOverflow.{SumsWithin}
@@ -28,8 +26,8 @@ unfolding held_of
 account-by support rs true = λ i. record { support = support; held = held-over rs i; owed = (sums_of rs).owed }
 account-by support rs false = refl
 
-pub summed-totalled-requires : goal.summed-totalled-requires
-summed-totalled-requires c =
+pub summed-requires : goal.summed-requires
+summed-requires c =
     let g = c in
     let rs = g.args.records in
     let few : length rs ≡ 256 = search rules in
@@ -40,5 +38,5 @@ unfolding rebuilt sums_in
 returns c =
     let g = c in
     let rs = g.args.records in
-    let fresh = c.fresh-account.ensures ∙ ap fresh_account (to_z-of_z g.ranges.support) in
-    λ i. record { records = rs; account = (c.summed-totalled.ensures ∙ (λ j. summed (fresh j) (c.sums_of.ensures j)) ∙ account-by g.args.support rs (every ok_place rs)) i }
+    let fresh = c.fresh.ensures ∙ ap fresh_account (to_z-of_z g.ranges.support) in
+    λ i. record { records = rs; account = (c.summed.ensures ∙ (λ j. summed (fresh j) (c.sums_of.ensures j)) ∙ account-by g.args.support rs (every ok_place rs)) i }

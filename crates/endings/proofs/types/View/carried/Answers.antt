@@ -13,7 +13,7 @@ use Rattle.records.proofs.Bounds.{requirement-bounded}
 use Rattle.credit.specs.declared.types.Totals.{Totals}
 use Rattle.credit.specs.NoOverflow.{DeedBounded}
 use Rattle.credit.specs.Credit.{credit_rows}
-use Rattle.endings.specs.Endings.{DeedSound, totals_of, credit_verdict, turned_away, carried_out, ending_of}
+use Rattle.endings.specs.Endings.{DeedSound, totals_of, credit_verdict, carried_out, ending_of}
 use Rattle.endings.proofs.types.View.carried.Goals as goal
 
 -- a deed in range brings requirements in range
@@ -44,7 +44,6 @@ unfolding ending_of
 returns-in-Err c =
     let s = c.args.self in
     c.refused.ensures
-    ∙ ap (turned_away s) c.number.ensures
     ∙ ap (ending_of s) (sym (rows-refused (totals_of s) c.args.deed (number_of c.in-Err.refusal) c.totals.result c.totals.ensures c.in-Err.ensures))
 
 pub returns-in-Keyed : goal.returns-in-Keyed

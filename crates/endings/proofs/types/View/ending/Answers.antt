@@ -6,7 +6,7 @@ use Rattle.refusals.specs.Refusals.{Verdict, verdict_of, refuse, accept, number_
 use Rattle.messages.specs.declared.types.Deed.{Deed}
 use Rattle.refusals.specs.declared.Refusal.{Refusal}
 use Rattle.std.specs.Prelude.{Result}
-use Rattle.endings.specs.Endings.{View, totals_of, pass, unsound, turned_away, ending_of, ended}
+use Rattle.endings.specs.Endings.{View, totals_of, pass, unsound, ending_of, ended}
 use Rattle.endings.proofs.types.View.ending.Goals as goal
 
 -- by the test of soundness
@@ -29,7 +29,6 @@ unfolding ending_of pass
 returns-in-Err c =
     let s = c.args.self in
     c.refused.ensures
-    ∙ ap (turned_away s) c.number.ensures
     ∙ ended-sound s (refuse (number_of c.in-Err.refusal)) (not-false _ c.if-not-self.false)
     ∙ ap (λ (p : Result Deed Refusal). ended s (verdict_of p)) (sym c.in-Err.is)
 
