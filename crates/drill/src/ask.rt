@@ -318,12 +318,20 @@ impl Ask {
 
     // A close that lists so many paths, where so many bids of the hour drawn are pending.
     pub(crate) fn closing(self, seed: u64, pending: usize, listed: usize) -> Ask {
-        let mut next = self;
-        next.key.hour = closes::hour_named(self.key.hour, seed);
-        next.lengths.numbers = listed as u64;
-        next.lengths.prices = closes::prices(listed as u64, seed);
-        next.pending = pending;
-        next
+        let numbers = listed as u64;
+        Ask {
+            key: Key {
+                hour: closes::hour_named(self.key.hour, seed),
+                ..self.key
+            },
+            lengths: Lengths {
+                numbers,
+                prices: closes::prices(numbers, seed),
+                ..self.lengths
+            },
+            pending,
+            ..self
+        }
     }
 
     // Whether no number of the lists can be faulty: there is none.
@@ -344,10 +352,11 @@ impl Ask {
 
     // A support message in its place, around the held amount that its own message would leave.
     pub(crate) fn funding(self, seed: u64, held: i64) -> Ask {
-        let mut next = self;
-        next.case = Case::Support;
-        next.cents = values::near(held.unsigned_abs(), draw(seed, Choice::Tight) / 64);
-        next
+        Ask {
+            case: Case::Support,
+            cents: values::near(held.unsigned_abs(), draw(seed, Choice::Tight) / 64),
+            ..self
+        }
     }
 
     fn opening(&self) -> Opening {

@@ -2,7 +2,7 @@
 // totals.
 ghost use Rattle.std.specs.Prelude.{◌<◌};
 
-use book::{Account, Kind, Record, Stage};
+use book::{Account, Intervals, Key, Kind, Record, Stage};
 
 // What a change sets, by the number that the table has. The numbers between `Twice` and `First` are those of the kept totals.
 #[derive(Clone, Copy, PartialEq, Eq)]
@@ -134,6 +134,14 @@ const FIELDS: [(Field, [i64; 8]); 18] = [
     ),
 ];
 
+// The four sums of a sound record that has them.
+const QUARTERS: Intervals = Intervals {
+    first: 100,
+    second: 0,
+    third: 1,
+    fourth: 640_000,
+};
+
 // A field set to a value, in a record of a stage and a kind; 0 is the stage of a free place, and 5 is none.
 #[derive(Clone, Copy)]
 pub(crate) struct Change {
@@ -166,22 +174,23 @@ impl Change {
 
     // A sound record of each kind at each stage but 2 for kind 3; at stage 0 a free place, and at 5 one that is none.
     fn base(&self) -> Record {
-        let mut r = Record::blank();
         if self.stage == Stage::FREE {
-            return r;
+            return Record::blank();
         }
-        r.key.kind = self.kind;
-        r.key.path = 900;
-        r.key.hour = 77;
-        r.stage = self.stage;
-        if self.kind == Kind::QUARTER_HOUR_EXPORT {
-            r.intervals.first = 100;
-            r.intervals.third = 1;
-            r.intervals.fourth = 640_000;
+        let key = Key {
+            kind: self.kind,
+            path: 900,
+            hour: 77,
+        };
+        let bid = if self.kind == Kind::QUARTER_HOUR_EXPORT {
+            Record::pending(key, QUARTERS)
         } else {
-            r.mwh = 100;
+            Record::bid(key, 100, 0, false, 0)
+        };
+        Record {
+            stage: self.stage,
+            ..bid
         }
-        r
     }
 
     pub(crate) fn record(&self) -> Record {
@@ -236,9 +245,9 @@ fn moved(cents: i64, old: i64, new: i64) -> i64 {
 // The kept totals, where a place that had one record has another.
 pub(crate) fn followed(account: Account, old: &Record, new: &Record) -> Account {
     Account {
-        support: account.support,
         held: moved(account.held, counted(old), counted(new)),
         owed: moved(account.owed, counted_as_owed(old), counted_as_owed(new)),
+        ..account
     }
 }
 
@@ -321,9 +330,9 @@ impl Tampering {
         } = account;
         let (for_held, for_owed) = TAMPERINGS[self.way];
         Account {
-            support,
             held: for_held.of(held, owed, support),
             owed: for_owed.of(owed, held, support),
+            ..account
         }
     }
 }

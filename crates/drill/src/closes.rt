@@ -3,7 +3,7 @@ use crate::ask::Place;
 use crate::generator::{Choice, draw, has};
 use crate::values::one_of;
 use crate::{points, values};
-use book::{Book, Kind, Record, Stage};
+use book::{Book, Record, Stage};
 use std::alloc::{AllocError, Global};
 
 // How a list is not that of the pending bids, by its draw.
@@ -50,10 +50,6 @@ pub(crate) fn lists_fault(seed: u64) -> Option<ListsFault> {
     })
 }
 
-fn is_pending(r: &Record, hour: u64) -> bool {
-    r.stage == Stage::BID && r.key.kind == Kind::QUARTER_HOUR_EXPORT && r.key.hour == hour
-}
-
 // The paths of the pending bids of an hour: each place is passed once, from one on, by an odd step.
 pub(crate) fn pending(
     alloc: Global,
@@ -69,7 +65,7 @@ pub(crate) fn pending(
     };
     (0..256u64)
         .map(|i| &book.records[Place::of(start.wrapping_add(step.wrapping_mul(i))).at])
-        .filter(|r| is_pending(r, hour))
+        .filter(|r| r.is_pending(hour))
         .map(|r| r.key.path)
         .collect(alloc)
 }

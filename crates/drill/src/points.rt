@@ -130,14 +130,18 @@ fn total(counts: book::Counts) -> u64
 
 // What is said of them.
 fn four_stated(counts: book::Counts, fault: Option<CurvesFault>) -> book::Counts {
-    let mut stated = counts;
     match fault {
-        Some(CurvesFault::OneMore) => stated.first = counts.first % 66 + 1,
-        Some(CurvesFault::TooMany) => stated.fourth = u64::MAX,
-        Some(CurvesFault::Wrapping) => stated = counts_of(u64::MAX, total(counts) + 1, 0, 0),
-        _ => (),
+        Some(CurvesFault::OneMore) => book::Counts {
+            first: counts.first % 66 + 1,
+            ..counts
+        },
+        Some(CurvesFault::TooMany) => book::Counts {
+            fourth: u64::MAX,
+            ..counts
+        },
+        Some(CurvesFault::Wrapping) => counts_of(u64::MAX, total(counts) + 1, 0, 0),
+        _ => counts,
     }
-    stated
 }
 
 pub(crate) fn four_curves(seed: u64) -> Lengths {

@@ -41,8 +41,10 @@ impl Sent {
 
     // The held amount that the message would leave with the largest support.
     pub(crate) fn tried(&self, book: &Book) -> i64 {
-        let mut aside = *book;
-        aside.account = book.account.supported(values::MOST_SUPPORT);
+        let aside = Book {
+            account: book.account.supported(values::MOST_SUPPORT),
+            ..*book
+        };
         let outcome = aside.apply(self.ask.message(), &self.numbers, &self.prices);
         outcome.answer.held()
     }
