@@ -24,7 +24,7 @@ impl Book {
         let key = key_of(message);
         let mut codes = [0u64; 256];
         let mut walk = Walk::nothing();
-        // From the end, as the sums recurse.
+        // From the end, as the sums recurse; by number, which `codes` and `with` ask for too.
         for i in (0..Book::PLACES).rev() {
             let r = next.records[i];
             // At the first place that is out of range: nothing else is asked.
