@@ -8,7 +8,8 @@ use crate::rows::{Counts, Row};
 use crate::tally::Tally;
 use crate::trials::Sent;
 use crate::{changes, trials};
-use book::{Account, Book, Record};
+use book::{Account, Answer, Book, Record};
+use refusals::Refusal;
 
 // ---- which books
 
@@ -67,11 +68,11 @@ fn apply(book: &mut Book, edit: Edit, place: Place) {
 
 // ---- what was seen
 
-// The number of the answer, whether the book was sound, and whether a screen was told that it is suspended; of a book that is rebuilt, whether the one before it was
+// The answer, whether the book was sound, and whether a screen was told that it is suspended; of a book that is rebuilt, whether the one before it was
 // sound. What each of three books keeps: the run's, the one before, and the one set aside.
 #[derive(Clone, Copy)]
 struct Seen {
-    number: u64,
+    answer: Answer,
     sound: bool,
     told: bool,
     was_sound: Option<bool>,
@@ -86,7 +87,7 @@ fn same_totals(a: Account, b: Account) -> bool {
 
 impl Seen {
     fn refused(&self) -> bool {
-        self.number == 1
+        self.answer.number() == Refusal::Unsound.number()
     }
 
     // What a screen is told of suspension, where the records say otherwise.
@@ -103,10 +104,11 @@ impl Seen {
             same_totals(self.aside, self.before).then_some(Row::RebuiltAsItWas)
         } else if !same_totals(self.aside, self.now) {
             None
-        } else if self.number == 0 {
-            Some(Row::SoundAgainAndAccepted)
         } else {
-            Some(Row::SoundAgainAndRefused)
+            Some(match self.answer {
+                Answer::Refused { .. } => Row::SoundAgainAndRefused,
+                Answer::Accepted { .. } | Answer::Removed { .. } => Row::SoundAgainAndAccepted,
+            })
         }
     }
 
@@ -167,8 +169,9 @@ pub(crate) fn probed(book: &Book, tally: &mut Tally, sent: &Sent) {
     }
     tally.digest = trials::screened(&aside, tally.digest);
     let outcome = aside.apply(ask.message(), &sent.numbers, &sent.prices);
+    let answer = outcome.answer;
     let seen = Seen {
-        number: outcome.answer.number(),
+        answer,
         sound: aside.is_sound(),
         told: aside.suspended(),
         was_sound,
@@ -179,10 +182,10 @@ pub(crate) fn probed(book: &Book, tally: &mut Tally, sent: &Sent) {
     if seen.refused() {
         tally
             .counts
-            .count_answer(tally.seed, ask.case, ask.lists_none(), seen.number);
+            .count_answer(tally.seed, ask.case, ask.lists_none(), answer.number());
     }
     seen.count(&mut tally.counts, edit);
-    tally.answered(outcome.answer);
+    tally.answered(answer);
     let given_back = trials::all_mixed(&outcome.book, tally.digest);
     tally.digest = mix(given_back, u64::from(seen.sound));
 }

@@ -9,6 +9,7 @@ use book::{
     Billing, Closing, Curves, Finishing, Funding, Key, Kind, Message, Opening, Posting, Record,
     Stage,
 };
+use refusals::Refusal;
 use std::fmt;
 
 // The messages, by the numbers that a line and the table have.
@@ -58,6 +59,11 @@ impl Case {
     // An open or a revise of one curve.
     pub(crate) fn has_one_curve(self) -> bool {
         matches!(self, Case::Open | Case::Revise)
+    }
+
+    // It has a quantity that was delivered.
+    pub(crate) fn is_delivered(self) -> bool {
+        matches!(self, Case::Post | Case::Finish)
     }
 
     // An open or a revise, of either form.
@@ -198,13 +204,13 @@ fn key_of(seed: u64, r: &Record, from: bool) -> Key {
             hour: values::hour(u),
         }
     };
-    if has(seed, 2) {
+    if has(seed, Refusal::Kind) {
         key.kind = one_of(&values::KINDS_OUT, w);
     }
-    if has(seed, 3) {
+    if has(seed, Refusal::Path) {
         key.path = one_of(&values::PATHS_OUT, v);
     }
-    if has(seed, 4) {
+    if has(seed, Refusal::Hour) {
         key.hour = one_of(&values::HOURS_OUT, u);
     }
     key
@@ -212,7 +218,7 @@ fn key_of(seed: u64, r: &Record, from: bool) -> Key {
 
 fn differential_of(seed: u64, kind: u64) -> u64 {
     let w = draw(seed, Choice::Differential);
-    let fault = has(seed, 8);
+    let fault = has(seed, Refusal::Differential);
     if Kind::EXPORT < kind {
         u64::from(fault)
     } else if fault {
@@ -224,7 +230,7 @@ fn differential_of(seed: u64, kind: u64) -> u64 {
 
 fn quantity_of(seed: u64, r: &Record) -> u64 {
     let w = draw(seed, Choice::Quantity);
-    if has(seed, 6) {
+    if has(seed, Refusal::Quantity) {
         return one_of(&values::QUANTITIES_OUT, w);
     }
     let mwh = if r.key.kind == Kind::QUARTER_HOUR_EXPORT {
@@ -246,9 +252,9 @@ fn quantity_of(seed: u64, r: &Record) -> u64 {
 fn price_of(seed: u64, kind: u64) -> i64 {
     let w = draw(seed, Choice::Price);
     let out = match draw(seed, Choice::SecondPrice) % 3 {
-        0 => has(seed, 7),
+        0 => has(seed, Refusal::Price),
         1 => false,
-        _ => has(seed, 7) && kind == Kind::WHEEL,
+        _ => has(seed, Refusal::Price) && kind == Kind::WHEEL,
     };
     if out {
         one_of(&values::PRICES_OUT, w)
@@ -259,7 +265,7 @@ fn price_of(seed: u64, kind: u64) -> i64 {
 
 fn second_of(seed: u64, kind: u64) -> i64 {
     let w = draw(seed, Choice::SecondPrice);
-    match (has(seed, 7), w % 3) {
+    match (has(seed, Refusal::Price), w % 3) {
         (true, 1) => one_of(&values::PRICES_OUT, w),
         _ if kind == Kind::WHEEL => values::price_or(&values::PRICES, w),
         (true, 2) => 1,
@@ -280,7 +286,7 @@ fn support_of(w: u64, now: &Standing) -> i64 {
 
 fn amount_of(seed: u64, case: Case, now: &Standing) -> i64 {
     let w = draw(seed, Choice::Amount);
-    match (case, has(seed, 9)) {
+    match (case, has(seed, Refusal::Amount)) {
         (Case::Bill, true) => one_of(&values::BILLS_OUT, w),
         (Case::Bill, false) => values::price_or(&values::BILLS, w),
         (_, true) => one_of(&values::SUPPORTS_OUT, w),

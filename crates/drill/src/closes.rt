@@ -4,6 +4,7 @@ use crate::generator::{Choice, draw, has};
 use crate::values::one_of;
 use crate::{points, values};
 use book::{Book, Record, Stage};
+use refusals::Refusal;
 use std::alloc::{AllocError, Global};
 
 // How a list is not that of the pending bids, by its draw.
@@ -42,7 +43,7 @@ pub(crate) enum ListsFault {
 }
 
 pub(crate) fn lists_fault(seed: u64) -> Option<ListsFault> {
-    has(seed, 5).then(|| match draw(seed, Choice::Count) % 4 {
+    has(seed, Refusal::Points).then(|| match draw(seed, Choice::Count) % 4 {
         0 => ListsFault::PathTwice,
         1 => ListsFault::OnePriceShort,
         2 => ListsFault::OnePriceTooMany,
@@ -110,7 +111,7 @@ fn list_path_twice(paths: &mut Vec<u64>, seed: u64) -> Result<(), AllocError> {
 pub(crate) fn listed(pending: Vec<u64>, seed: u64, r: &Record) -> Result<Vec<u64>, AllocError> {
     let mut paths = pending;
     list_by_way(&mut paths, seed, r)?;
-    if has(seed, 3) {
+    if has(seed, Refusal::Path) {
         put_path_out(&mut paths, seed)?;
     }
     if lists_fault(seed) == Some(ListsFault::PathTwice) {

@@ -1,4 +1,5 @@
 // The generator: each draw of a turn from the turn's seed.
+use refusals::Refusal;
 
 pub(crate) const MODULUS: u64 = 2_147_483_647;
 
@@ -76,7 +77,8 @@ pub(crate) fn next(x: u64) -> u64 {
     x % MODULUS * MULTIPLIER % MODULUS
 }
 
-// Whether one of the turn's two faults is the one of this number.
-pub(crate) fn has(seed: u64, number: u64) -> bool {
+// Whether one of the turn's two faults is the one that is refused so: the fault has the refusal's number.
+pub(crate) fn has(seed: u64, refusal: Refusal) -> bool {
+    let number = refusal.number();
     draw(seed, Choice::Fault) % 32 == number || draw(seed, Choice::SecondFault) % 32 == number
 }

@@ -4,6 +4,7 @@ ghost use Rattle.std.specs.Prelude.{◌≤◌};
 use crate::digest::mix;
 use crate::generator::{Choice, draw, has};
 use crate::{generator, values};
+use refusals::Refusal;
 use std::alloc::{AllocError, Global};
 use std::iter;
 
@@ -35,7 +36,7 @@ pub(crate) enum CurvesFault {
 }
 
 pub(crate) fn curves_fault(seed: u64) -> Option<CurvesFault> {
-    has(seed, 5).then(|| match draw(seed, Choice::Count) % 8 {
+    has(seed, Refusal::Points).then(|| match draw(seed, Choice::Count) % 8 {
         0 => CurvesFault::Empty,
         1 => CurvesFault::TooLong,
         2 => CurvesFault::OnePriceMore,
@@ -75,7 +76,7 @@ fn usual(w: u64) -> u64
 pub(crate) fn one_curve(seed: u64) -> Lengths {
     let w = draw(seed, Choice::Count);
     let n = usual(w);
-    let (numbers, prices) = if has(seed, 5) && !has_other_form(seed) {
+    let (numbers, prices) = if has(seed, Refusal::Points) && !has_other_form(seed) {
         match w % 4 {
             0 => (0, 0),
             1 => (65, 65),
@@ -192,7 +193,7 @@ fn drawn<T: Drop, F: Fn(u64) -> T>(
 }
 
 // A fault puts one out of range among them.
-fn put_out<T: Copy>(seed: u64, list: &mut [T], fault: u64, out: &[T; 8]) {
+fn put_out<T: Copy>(seed: u64, list: &mut [T], fault: Refusal, out: &[T; 8]) {
     if has(seed, fault) {
         if let Some(place) = faulty_place(seed, list) {
             *place = values::one_of(out, draw(seed, Choice::Count) / 512);
@@ -203,7 +204,7 @@ fn put_out<T: Copy>(seed: u64, list: &mut [T], fault: u64, out: &[T; 8]) {
 // The quantities.
 pub(crate) fn mwh_points(alloc: Global, seed: u64, count: u64) -> Result<Vec<u64>, AllocError> {
     let mut list = drawn(alloc, draw(seed, Choice::Points), count, values::mwh)?;
-    put_out(seed, &mut list, 6, &values::POINT_MWH_OUT);
+    put_out(seed, &mut list, Refusal::Quantity, &values::POINT_MWH_OUT);
     Ok(list)
 }
 
@@ -212,6 +213,6 @@ pub(crate) fn price_points(alloc: Global, seed: u64, count: u64) -> Result<Vec<i
     let mut list = drawn(alloc, first, count, |x| {
         values::price_or(&values::PRICES, x)
     })?;
-    put_out(seed, &mut list, 7, &values::PRICES_OUT);
+    put_out(seed, &mut list, Refusal::Price, &values::PRICES_OUT);
     Ok(list)
 }

@@ -5,7 +5,7 @@ use crate::points::CurvesFault;
 use crate::rows::{Counts, Row};
 use crate::tally::Turn;
 use crate::{closes, points};
-use book::Kind;
+use book::{Answer, Kind};
 
 impl Turn {
     fn is_quarters(&self) -> bool {
@@ -77,9 +77,9 @@ impl Turn {
         }
     }
 
-    fn row_of_refused_close(&self) -> Option<Row> {
+    fn row_of_refused_close(&self, number: u64) -> Option<Row> {
         let first = points::faulty_first(self.seed);
-        match self.answer.number() {
+        match number {
             3 if first => Some(Row::FirstPathOut),
             3 if self.lists_several() => Some(Row::LastPathOut),
             5 => Some(self.row_of_5()),
@@ -91,10 +91,9 @@ impl Turn {
     }
 
     fn note_close(&self, counts: &mut Counts) {
-        if self.answer.number() == 0 {
-            self.note_batch(counts);
-        } else {
-            counts.count_any(self.row_of_refused_close());
+        match self.answer {
+            Answer::Refused { number, .. } => counts.count_any(self.row_of_refused_close(number)),
+            Answer::Accepted { .. } | Answer::Removed { .. } => self.note_batch(counts),
         }
     }
 
@@ -130,9 +129,9 @@ impl Turn {
     }
 
     fn note_bid(&self, counts: &mut Counts) {
-        match self.answer.number() {
-            0 if self.ask.case.has_curves() => self.note_curves(counts),
-            5 => counts.count_any(self.row_of_refused_points()),
+        match self.answer {
+            Answer::Refused { number: 5, .. } => counts.count_any(self.row_of_refused_points()),
+            Answer::Accepted { .. } if self.ask.case.has_curves() => self.note_curves(counts),
             _ => (),
         }
     }
@@ -155,7 +154,7 @@ impl Turn {
             self.note_bid(counts);
         }
         if self.names_quarters() {
-            counts.count_stage(self.record.stage, self.answer.number());
+            counts.count_stage(self.record.stage, self.answer);
         }
     }
 }

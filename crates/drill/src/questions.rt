@@ -54,11 +54,11 @@ fn table(w: u64) -> Table {
     }
 }
 
-// A lookup that is asked: whether it is of the newer edition and of the import table, whether bus and time are in range, and what is answered.
+// A lookup that is asked: whether it is of the newer edition, its table, whether bus and time are in range, and what is answered.
 #[derive(Clone, Copy)]
 struct Look {
     newer: bool,
-    import: bool,
+    table: Table,
     inside: bool,
     answer: Answer,
 }
@@ -71,72 +71,72 @@ fn looked(seed: u64) -> Look {
     let month = w / 24 % 14;
     let day = drawn % 3;
     let hour = drawn / 3 % 25;
-    let answer = chart::lookup(edition, table(w), bus, month, day, hour);
+    let table = table(w);
     Look {
         newer: edition == Edition::OF_33_GROUPS,
-        import: w % 2 == 0,
+        table,
         inside: (1..11).contains(&bus) && (1..13).contains(&month) && day < 2 && hour < 24,
-        answer,
+        answer: chart::lookup(edition, table, bus, month, day, hour),
     }
 }
 
 impl Look {
     fn answered_row(&self) -> Row {
-        if self.newer {
-            Row::Newer
-        } else if self.import {
-            Row::OlderImport
-        } else {
-            Row::OlderExport
+        match self.table {
+            _ if self.newer => Row::Newer,
+            Table::Import => Row::OlderImport,
+            Table::Export => Row::OlderExport,
         }
     }
 
     // None of an older edition that is out of range, and of no edition that is so too.
     fn refused_row(&self) -> Option<Row> {
-        match (self.newer, self.inside) {
-            (true, true) => Some(Row::NewerExport),
-            (false, true) => Some(Row::NoEdition),
-            (true, false) => self.import.then_some(Row::NewerImportOut),
-            (false, false) => None,
+        match (self.newer, self.inside, self.table) {
+            (true, true, _) => Some(Row::NewerExport),
+            (false, true, _) => Some(Row::NoEdition),
+            (true, false, Table::Import) => Some(Row::NewerImportOut),
+            (_, false, _) => None,
         }
     }
 
     fn row(&self) -> Option<Row> {
-        if chart::number(self.answer) == 0 {
-            Some(self.answered_row())
-        } else {
-            self.refused_row()
+        match self.answer {
+            Ok(_) => Some(self.answered_row()),
+            Err(_) => self.refused_row(),
         }
     }
 }
 
-// The row of an import test, by the refusal's number and the mark.
-fn test_row(refused: u64, exempt: u64) -> Row {
-    match (refused, exempt) {
-        (0, 0) => Row::NotExempt,
-        (0, _) => Row::Exempt,
-        _ => Row::TestRefused,
+fn test_row(test: history::Answer) -> Row {
+    match test {
+        Ok(true) => Row::Exempt,
+        Ok(false) => Row::NotExempt,
+        Err(_) => Row::TestRefused,
+    }
+}
+
+fn look_row(look: Answer) -> Row {
+    match look {
+        Ok(_) => Row::LookAnswered,
+        Err(_) => Row::LookRefused,
     }
 }
 
 // Both are counted, and the digest goes on with their answers.
 pub(crate) fn answered(seed: u64, digest: u64, counts: &mut Counts) -> u64 {
     let test = history(seed).import_test();
-    let refused = history::number(test);
-    let exempt = history::exempt(test);
     let asked = looked(seed);
     let look = asked.answer;
-    let number = chart::number(look);
-    counts.count(test_row(refused, exempt));
-    counts.count(if number == 0 {
-        Row::LookAnswered
-    } else {
-        Row::LookRefused
-    });
+    counts.count(test_row(test));
+    counts.count(look_row(look));
     counts.count_any(asked.row());
-    let tested = mix(mix(digest, refused), exempt);
-    mix(
-        mix(mix(tested, number), chart::group(look)),
+    [
+        history::number(test),
+        history::exempt(test),
+        chart::number(look),
+        chart::group(look),
         chart::cents(look),
-    )
+    ]
+    .iter()
+    .fold(digest, |digest, value| mix(digest, *value))
 }

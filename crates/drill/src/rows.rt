@@ -1,6 +1,8 @@
 // The rows of the table: where its parts begin, what they have room for, and what is counted in them.
 use crate::ask::Case;
-use crate::generator::{Choice, draw};
+use crate::generator::has;
+use book::Answer;
+use refusals::Refusal;
 
 pub(crate) const ROWS: usize = 1_024;
 
@@ -138,18 +140,31 @@ pub(crate) enum Row {
     NewerImportOut,
 }
 
-// The faults that concern each message as they are drawn. Faults 2 to 4 are in the key, 5 and 8 beside a bid, 6 and 7 in a delivery, 9 in a bill; 2 to 7 in four curves, and 3, 4, 5 and 7
-// in a close. Faults 6 and 7 are none of four curves or of a close whose lists have no such number.
-fn concerns(case: Case, lists_none: bool, fault: u64) -> bool {
-    match case {
-        Case::Open | Case::Revise => matches!(fault, 2..=5 | 8),
-        Case::Withdraw | Case::Pay => matches!(fault, 2..=4),
-        Case::Post | Case::Finish => matches!(fault, 2..=4 | 6 | 7),
-        Case::Bill => matches!(fault, 2..=4 | 9),
-        Case::Support => false,
-        Case::OpenCurves | Case::ReviseCurves if lists_none => matches!(fault, 2..=5),
-        Case::OpenCurves | Case::ReviseCurves => matches!(fault, 2..=7),
-        Case::Close => matches!(fault, 3..=5) || fault == 7 && !lists_none,
+// The faults that can be drawn, each by its refusal.
+const FAULTS: [Refusal; 8] = [
+    Refusal::Kind,
+    Refusal::Path,
+    Refusal::Hour,
+    Refusal::Points,
+    Refusal::Quantity,
+    Refusal::Price,
+    Refusal::Differential,
+    Refusal::Amount,
+];
+
+// Whether a fault concerns a message as it is drawn. One of a quantity or a price is none of four curves or of a close whose lists have no such number.
+fn concerns(case: Case, lists_none: bool, fault: Refusal) -> bool {
+    match fault {
+        Refusal::Kind => case.has_key(),
+        Refusal::Path | Refusal::Hour => case != Case::Support,
+        Refusal::Points => case.bids() || case == Case::Close,
+        Refusal::Quantity => case.is_delivered() || case.has_curves() && !lists_none,
+        Refusal::Price => {
+            case.is_delivered() || (case.has_curves() || case == Case::Close) && !lists_none
+        }
+        Refusal::Differential => case.has_one_curve(),
+        Refusal::Amount => case == Case::Bill,
+        _ => false,
     }
 }
 
@@ -194,9 +209,8 @@ impl Counts {
     pub(crate) fn count_answer(&mut self, seed: u64, case: Case, lists_none: bool, number: u64) {
         let at = number % NUMBERS;
         self.add(ANSWERS + case.number() * NUMBERS + at);
-        let later = [Choice::Fault, Choice::SecondFault].iter().any(|choice| {
-            let fault = draw(seed, *choice) % 32;
-            number < fault && concerns(case, lists_none, fault)
+        let later = FAULTS.iter().any(|&fault| {
+            number < fault.number() && concerns(case, lists_none, fault) && has(seed, fault)
         });
         if later {
             self.add(OVER_LATER + at);
@@ -213,12 +227,12 @@ impl Counts {
     }
 
     // A record of kind 5 was named at a stage: the message was accepted, or refused 12.
-    pub(crate) fn count_stage(&mut self, stage: u64, number: u64) {
+    pub(crate) fn count_stage(&mut self, stage: u64, answer: Answer) {
         let at = stage % STAGES;
-        match number {
-            0 => self.add(ACCEPTED_AT_STAGE + at),
-            12 => self.add(WRONG_STAGE + at),
-            _ => (),
+        match answer {
+            Answer::Accepted { .. } | Answer::Removed { .. } => self.add(ACCEPTED_AT_STAGE + at),
+            Answer::Refused { number: 12, .. } => self.add(WRONG_STAGE + at),
+            Answer::Refused { .. } => (),
         }
     }
 

@@ -4,7 +4,7 @@ use crate::rows::Row;
 use crate::tally::{Tally, Turn};
 use crate::trials::Sent;
 use crate::{asides, questions, report, trials, values};
-use book::Book;
+use book::{Answer, Book};
 use std::io;
 use std::ops::Range;
 
@@ -26,12 +26,10 @@ impl Plan {
 // A fresh book of this support.
 fn begun(tally: &mut Tally, support: i64) -> Book {
     let outcome = Book::fresh(support);
-    let row = if outcome.answer.number() == 0 {
-        Row::FreshAccepted
-    } else {
-        Row::FreshRefused
-    };
-    tally.counts.count(row);
+    tally.counts.count(match outcome.answer {
+        Answer::Refused { .. } => Row::FreshRefused,
+        Answer::Accepted { .. } | Answer::Removed { .. } => Row::FreshAccepted,
+    });
     tally.answered(outcome.answer);
     tally.digest = trials::account_mixed(outcome.book.account, tally.digest);
     outcome.book
@@ -61,7 +59,7 @@ fn turn<R: Print + AllocGlobal>(
     }
     let outcome = book.apply(ask.message(), &sent.numbers, &sent.prices);
     let answer = outcome.answer;
-    let closed = answer.number() == 0 && ask.case == Case::Close;
+    let closed = ask.case == Case::Close && !matches!(answer, Answer::Refused { .. });
     tally.noted(&Turn {
         seed,
         ask,

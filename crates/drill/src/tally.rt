@@ -5,6 +5,7 @@ use crate::generator::{Choice, draw};
 use crate::rows::{Counts, Row};
 use crate::{ask, values};
 use book::{Account, Answer, Book, Kind, Record};
+use refusals::Refusal;
 
 #[derive(Drop)]
 pub(crate) struct Tally {
@@ -47,7 +48,7 @@ impl Turn {
     }
 
     fn accepted(&self) -> bool {
-        self.answer.number() == 0
+        !matches!(self.answer, Answer::Refused { .. })
     }
 
     fn opens(&self) -> bool {
@@ -68,7 +69,10 @@ impl Turn {
         let suspended = self.account.suspended();
         let above = self.named() && self.record.mwh < self.ask.quantity;
         let quarters = self.ask.key.kind == Kind::QUARTER_HOUR_EXPORT;
-        match (self.ask.case, self.answer.number()) {
+        let Answer::Refused { number, .. } = self.answer else {
+            return None;
+        };
+        match (self.ask.case, number) {
             (Case::Open, 10) if self.full => Some(Row::TenOverFifteen),
             (Case::Open, 14) if self.full => Some(Row::FourteenOverFifteen),
             (Case::Open, 14) if self.short => Some(Row::FourteenOverSixteen),
@@ -90,13 +94,18 @@ impl Turn {
         let at_support = self.answer.held() == support;
         let below_twice = 0 <= owed && values::near(twice, 2) == support;
         let at_twice = 0 <= owed && values::near(twice, 1) == support;
-        match (self.ask.case, self.answer.number()) {
-            (Case::Open, 0) if below_twice => Some(Row::OpenOneCentBelowTwiceOwed),
-            (Case::Open, 0) if at_support => Some(Row::OpenAtSupport),
-            (Case::Revise, 0) if at_support => Some(Row::ReviseAtSupport),
-            (_, 14) if at_twice => Some(Row::SuspendedAtTwiceOwed),
-            (Case::Open, 16) if self.one_short => Some(Row::OpenOneCentAbove),
-            (_, 16) if self.one_short => Some(Row::ReviseOneCentAbove),
+        match (self.ask.case, self.answer) {
+            (_, Answer::Refused { number: 14, .. }) if at_twice => Some(Row::SuspendedAtTwiceOwed),
+            (Case::Open, Answer::Refused { number: 16, .. }) if self.one_short => {
+                Some(Row::OpenOneCentAbove)
+            }
+            (_, Answer::Refused { number: 16, .. }) if self.one_short => {
+                Some(Row::ReviseOneCentAbove)
+            }
+            (_, Answer::Refused { .. }) => None,
+            (Case::Open, _) if below_twice => Some(Row::OpenOneCentBelowTwiceOwed),
+            (Case::Open, _) if at_support => Some(Row::OpenAtSupport),
+            (Case::Revise, _) if at_support => Some(Row::ReviseAtSupport),
             _ => None,
         }
     }
@@ -158,11 +167,11 @@ impl Tally {
 
     // Suspension is seen by a 14, and seen gone by an open or a revise that is accepted.
     fn note_suspension(&mut self, turn: &Turn) {
-        let number = turn.answer.number();
-        if number == 14 && !self.suspended {
+        let suspended = turn.answer.number() == Refusal::Suspended.number();
+        if suspended && !self.suspended {
             self.suspended = true;
             self.counts.count(Row::SuspensionOn);
-        } else if number == 0 && turn.ask.case.bids() && self.suspended {
+        } else if turn.accepted() && turn.ask.case.bids() && self.suspended {
             self.suspended = false;
             self.counts.count(Row::SuspensionOff);
         }

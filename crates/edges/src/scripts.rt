@@ -1,5 +1,6 @@
 // What a line of the script says: the values of the message that it sends, or the record that it writes. A line is a word and its numbers, in
 // document 01's order.
+// Each number is named by how many stand before it, and so read from the line's start: one that takes the next would be a second reader beside that of `lines`.
 ghost use Rattle.std.specs.Prelude.{◌≤◌};
 
 use book::{

@@ -1,11 +1,17 @@
 // What the desk sends: each group in turn goes through its life, and is open again at its end. An empty book has support 0, so that none is opened there.
 use book::{Billing, Finishing, Funding, Key, Kind, Message, Opening, Posting};
 
-// The groups that are open, and how many hours and paths lie between the keys of two of them; none of both where the keys are spread.
+// How the groups' keys lie: spread over kinds, paths and hours, or all imports with so many hours and paths between two of them.
+#[derive(Clone, Copy)]
+pub(crate) enum Keys {
+    Spread,
+    Apart { hours: u64, paths: u64 },
+}
+
+// The groups that are open, and their keys.
 #[derive(Clone, Copy)]
 pub(crate) struct Groups {
-    pub(crate) hours: u64,
-    pub(crate) paths: u64,
+    pub(crate) keys: Keys,
     pub(crate) open: u64,
 }
 
@@ -14,21 +20,35 @@ fn from_first(group: u64, step: u64) -> u64 {
     group % 256 * (step % 1_000_000)
 }
 
-impl Groups {
-    // Spread: the kinds in turn; an hour is given once. Else all are imports.
+impl Keys {
+    // By the hours and the paths that are read; spread where both are 0.
+    pub(crate) fn of(hours: u64, paths: u64) -> Keys {
+        match (hours, paths) {
+            (0, 0) => Keys::Spread,
+            _ => Keys::Apart { hours, paths },
+        }
+    }
+
     fn key(self, group: u64) -> Key {
-        if self.hours == 0 && self.paths == 0 {
-            return Key {
+        match self {
+            // The kinds in turn; an hour is given once.
+            Keys::Spread => Key {
                 kind: group % 4 + 1,
                 path: group % 7 * 100 + 7,
                 hour: group % 256 + 4_000,
-            };
+            },
+            Keys::Apart { hours, paths } => Key {
+                kind: Kind::IMPORT,
+                path: from_first(group, paths) % 999 + 1,
+                hour: from_first(group, hours) % 1_000_000,
+            },
         }
-        Key {
-            kind: Kind::IMPORT,
-            path: from_first(group, self.paths) % 999 + 1,
-            hour: from_first(group, self.hours) % 1_000_000,
-        }
+    }
+}
+
+impl Groups {
+    fn key(self, group: u64) -> Key {
+        self.keys.key(group)
     }
 
     pub(crate) fn opening(self, group: u64, turn: u64) -> Opening {

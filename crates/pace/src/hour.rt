@@ -44,6 +44,7 @@ fn cents(price: u64, turn: u64) -> i64 {
 
 fn mixed_closes(book: Book, price: u64, closes: u64) -> u64 {
     let paths: [u64; 256] = array::from_fn(|before| before as u64 + 1);
+    // A loop, here and of opens: the closure of a `fold` copies the book once more for each message.
     let mut digest: u64 = 0;
     for turn in 0..closes {
         let prices = [cents(price, turn); 1_024];

@@ -9,7 +9,7 @@ mod desk;
 mod hour;
 
 use book::{Account, Answer, Book, Message, Outcome};
-use desk::Groups;
+use desk::{Groups, Keys};
 use std::io;
 use std::io::Read;
 
@@ -39,10 +39,12 @@ pub(crate) fn mix(digest: u64, value: u64) -> u64 {
 
 // The refusal's number, or 0, and the amounts.
 pub(crate) fn mixed(digest: u64, answer: Answer) -> u64 {
-    let digest = mix(digest, answer.number());
-    let digest = mix(digest, answer.requirement().unsigned_abs());
-    let digest = mix(digest, answer.held().unsigned_abs());
-    mix(digest, answer.net_owed().unsigned_abs())
+    let amounts = [answer.requirement(), answer.held(), answer.net_owed()];
+    amounts
+        .iter()
+        .fold(mix(digest, answer.number()), |digest, cents| {
+            mix(digest, cents.unsigned_abs())
+        })
 }
 
 // The outcome is kept whole from one message to the next, so that a book is not copied here.
@@ -67,11 +69,7 @@ fn shown(digest: u64, account: Account) -> u64 {
 
 // The digest of what a screen is shown, so many times, after what was sent to the full book.
 fn asked(account: Account, questions: u64, before: u64) -> u64 {
-    let mut digest = before;
-    for _ in 0..questions {
-        digest = shown(digest, account);
-    }
-    digest
+    (0..questions).fold(before, |digest, _| shown(digest, account))
 }
 
 // The digest of all answers to the messages, after what was asked.
@@ -101,8 +99,7 @@ fn main(rt: HostRuntime) -> io::Result<()> {
         messages,
     ] = numbers(&text);
     let groups = Groups {
-        hours,
-        paths,
+        keys: Keys::of(hours, paths),
         open: open.min(256),
     };
     let full = filled(groups);
