@@ -26,11 +26,11 @@ use Rattle.records.specs.Records.{is_free}
 use Rattle.messages.specs.Plan.{Deed, Message, Open, Revise, Withdraw, Post, Finish, Bill, Pay, Support, OpenCurves, ReviseCurves, Close, OpenSides, ReviseSides, PostSides, zone_key, stage_rows, plan_rows}
 
 -- ---- no row has the number 0
-key-rows-numbered : (k : Key) → numbered (key_rows k) ≡ true
+pub key-rows-numbered : (k : Key) → numbered (key_rows k) ≡ true
 unfolding numbered key_rows
 key-rows-numbered k = refl
 
-stage-rows-numbered : (old : Record) (right : Bool) → numbered (stage_rows old right) ≡ true
+pub stage-rows-numbered : (old : Record) (right : Bool) → numbered (stage_rows old right) ≡ true
 unfolding numbered stage_rows
 stage-rows-numbered old right = refl
 
@@ -87,27 +87,15 @@ plan-rows-numbered old (PostSides p) ms ps =
     (numbered-append (mwh_rows p.load p.supply) _ (mwh-rows-numbered p.load p.supply)
     (numbered-append (stage_rows old stage) _ (stage-rows-numbered old stage) (one-numbered 13 (not (leb p.load old.mwh && leb p.supply old.supply.mwh)) refl)))
 
--- ---- one table above another, as the code asks them: n is the number that the upper gives up with
-module _ (rest : List Row) (n : ℕ) (x : Deed) where
-  pub key_refused : (k : Key) → refuse n ≡ judge (key_rows k) (tt {0}) → refuse n ≡ judge (key_rows k ++ rest) x
-  key_refused k e = stopped (key_rows k) rest n (tt {0}) x (key-rows-numbered k) e
+-- ---- one table above another, as the code asks them
+module _ (above rest : List Row) (x : Deed) (h : numbered above ≡ true) where
+  -- n is the number that the upper gives up with
+  pub above_refused : (n : ℕ) → refuse n ≡ judge above (tt {0}) → refuse n ≡ judge (above ++ rest) x
+  above_refused n e = stopped above rest n (tt {0}) x h e
 
-  pub stage_refused : (old : Record) (right : Bool) → refuse n ≡ judge (stage_rows old right) (tt {0}) → refuse n ≡ judge (stage_rows old right ++ rest) x
-  stage_refused old right e = stopped (stage_rows old right) rest n (tt {0}) x (stage-rows-numbered old right) e
-
-  pub delivery_refused : (kind mwh : ℕ) (price second : ℤ) → refuse n ≡ judge (delivery_rows kind mwh price second) (tt {0}) → refuse n ≡ judge (delivery_rows kind mwh price second ++ rest) x
-  delivery_refused kind mwh price second e = stopped (delivery_rows kind mwh price second) rest n (tt {0}) x (delivery-rows-numbered kind mwh price second) e
-
--- ---- and once it is passed
-module _ (rest : List Row) (x : Deed) where
-  pub key_passed : (k : Key) → accept (tt {0}) ≡ judge (key_rows k) (tt {0}) → judge rest x ≡ judge (key_rows k ++ rest) x
-  key_passed k e = sym (passed (key_rows k) rest (tt {0}) (tt {0}) x (key-rows-numbered k) e)
-
-  pub stage_passed : (old : Record) (right : Bool) → accept (tt {0}) ≡ judge (stage_rows old right) (tt {0}) → judge rest x ≡ judge (stage_rows old right ++ rest) x
-  stage_passed old right e = sym (passed (stage_rows old right) rest (tt {0}) (tt {0}) x (stage-rows-numbered old right) e)
-
-  pub delivery_passed : (kind mwh : ℕ) (price second : ℤ) → accept (tt {0}) ≡ judge (delivery_rows kind mwh price second) (tt {0}) → judge rest x ≡ judge (delivery_rows kind mwh price second ++ rest) x
-  delivery_passed kind mwh price second e = sym (passed (delivery_rows kind mwh price second) rest (tt {0}) (tt {0}) x (delivery-rows-numbered kind mwh price second) e)
+  -- and once it is passed
+  pub above_passed : accept (tt {0}) ≡ judge above (tt {0}) → judge rest x ≡ judge (above ++ rest) x
+  above_passed e = sym (passed above rest (tt {0}) (tt {0}) x h e)
 
 -- ---- the key's rows and a bid's, above what is asked of the record under the key
 keyed-numbered : (k : Key) (bid : List Row) → numbered bid ≡ true → numbered (key_rows k ++ bid) ≡ true
