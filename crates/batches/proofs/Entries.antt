@@ -70,6 +70,15 @@ module _ (paths table : List ℕ) (prices : List ℤ) (r : Record) (ok : ok_plac
   unfolding closed_for
   some-cents place is = ap (λ (n : ℕ). cents_of (closed_verdict r.intervals (quote_at n prices))) is
 
+  pub entry-nothing : entry ≡ 0 → pos 0 ≡ closed_for paths prices r
+  entry-nothing e = sym (unlisted (sym listed-is ∙ ap (λ (n : ℕ). not (eqb n 0)) e))
+
+  pub entry-cents : (entry ≡ 0 → ⊥) → cents_of (closed_verdict r.intervals (quote_at (entry - 1) prices)) ≡ closed_for paths prices r
+  unfolding closed_for
+  entry-cents some =
+      ap (λ (n : ℕ). cents_of (closed_verdict r.intervals (quote_at n prices)))
+      (ap (λ (n : ℕ). n - 1) at_path ∙ entry-some paths table l path (path-low r ok) (λ z. some (at_path ∙ z)))
+
   -- an entry less 1, where it is above 0
   pub place-listed : (o : Option ℕ) → SomeIff o (1 ≤ entry) (entry - 1) → is_some o ≡ stands_in path paths
   place-listed None none = let e : entry ≡ 0 = omega (arith, none) in sym (sym listed-is ∙ ap (λ (n : ℕ). not (eqb n 0)) e)

@@ -6,7 +6,7 @@ use mathlib.Core.List.{List, [], ◌∷◌, ◌++◌, map}
 use Prim.Native.Nat.{ℕ, suc, ◌+◌, ◌-◌, ◌<◌, ◌≤◌}
 use native.Mathlib.Omega.{arith}
 use native.Mathlib.Nat.{le_refl}
-use lib.IntN.{ℤ}
+use lib.IntN.{ℤ, +ℤ_comm}
 use lib.ListN.{length, get_or, take, drop, set, length-map}
 use Rattle.std.proofs.Common.{length-append, append-nil}
 use Rattle.std.proofs.lemmas.List.{take_more, take_all, drop_all, length-take, length-take-le, length-drop, get_or_default, get_or-append_right, get_or-drop}
@@ -27,7 +27,27 @@ sane-at rs h k = every-at (λ (r : Record). ok_place r ≡ true) ok_place blank 
 
 -- ---- what the places bring, one by one from the last
 module _ (hour : ℕ) (paths : List ℕ) (prices : List ℤ) where
-  -- one place more, after the others
+  -- one place more, before the others
+  count_by : (n : ℕ) (p : ℕ) (ps : List ℕ) (b : Bool) → n ≡ length ps → cond b (n + 1) n ≡ length (cond b (p ∷ ps) ps)
+  count_by n p ps true e = omega arith
+  count_by n p ps false e = e
+
+  listed_by : (p : ℕ) (ps : List ℕ) (b : Bool) → cond b (stands_in p paths && among ps paths) (among ps paths) ≡ among (cond b (p ∷ ps) ps) paths
+  unfolding every
+  listed_by p ps true = refl
+  listed_by p ps false = refl
+
+  pub seen_more : (r : Record) (rs : List Record) → more hour paths prices (seen hour paths prices rs) r ≡ seen hour paths prices (r ∷ rs)
+  unfolding more pending_paths batch_cents sum
+  seen_more r rs =
+      let b = is_pending hour r in
+      λ i. record {
+        count = count_by (length (pending_paths hour rs)) r.key.path (pending_paths hour rs) b refl i;
+        listed = listed_by r.key.path (pending_paths hour rs) b i;
+        cents = +ℤ_comm (batch_cents hour paths prices rs) (brings hour paths prices r) i;
+      }
+
+  -- and after the others
   pending-by : (p : ℕ) (ps qs : List ℕ) (b : Bool) → cond b (p ∷ (ps ++ qs)) (ps ++ qs) ≡ cond b (p ∷ ps) ps ++ qs
   pending-by p ps qs true = refl
   pending-by p ps qs false = refl

@@ -1,31 +1,40 @@
 -- What it means that no row refuses a bid: its points are a curve, and its amounts are in their ranges.
 -- Assumes nothing.
-use mathlib.Core.Path.{◌≡◌, refl, sym, ap, ◌∙◌}
+use mathlib.Core.Path.{◌≡◌, refl, sym, ap, subst, ◌∙◌}
 use mathlib.Core.Bool.{Bool, true, false, not, cond, ◌&&◌}
 use mathlib.Core.List.{List, [], ◌∷◌}
-use Prim.Native.Nat.{ℕ, ◌*◌, ◌≤◌, zero-le}
+use Prim.Native.Nat.{ℕ, zero, suc, ◌*◌, ◌≤◌, zero-le}
 use native.Mathlib.Nat.{max-le}
 use native.Mathlib.Omega.{arith}
 use lib.Dec.{leb, eqb}
 use lib.IntN.{ℤ, pos, neg_ℤ, ◌*ℤ◌}
 use lib.Signed.{le_z}
-use lib.ListN.{length}
+use lib.ListN.{length, get_or}
 use borrow.Author.Tests.{not-true, not-false, leb-true, le-leb, eqb-true}
 use Rattle.amounts.specs.Amount.{up, Range}
 use Rattle.amounts.specs.Limits.{between, is_point_mwh, is_price}
 use Rattle.amounts.specs.Lists.{every}
 use Rattle.amounts.proofs.Signed.{up_neg, mul_mono, larger-of, times-of, range-true, range-wider}
-use Rattle.refusals.specs.Refusals.{row, Verdict, accept, judge, None}
-use Rattle.refusals.proofs.Laws.{numbered, and_left, and_right, never, none-split, numbered-append, none_applied}
+use Rattle.refusals.specs.Refusals.{row, first, Verdict, refuse, accept, judge, None}
+use Rattle.refusals.proofs.Laws.{numbered, and_left, and_right, never, none-applies, none-split, numbered-append, none_applied, answered-none, answered-some}
 use Rattle.kinds.specs.declared.Rules.{Rules}
 use Rattle.kinds.specs.Kinds.{quarter_hour, virtual, is_kind, has_one_curve, kind_row, unless_exempt, rules_of, import_rules, export_rules, hour_ahead_rules, wheel_rules, differential_fits, bid_mwh_fits, pending_fits}
 use Rattle.kinds.proofs.ByKind.{by-kind, by-rules, rules-1, rules-2, rules-3, rules-4, rules-5, rules-6}
 use Rattle.kinds.proofs.Fits.{pending-range, exempt-range, differential-small}
-use Rattle.bids.specs.Points.{Point, curve, largest_mwh, total_mwh, mwh_at, Exposure, tried, exposure, wheel_exposure}
+use Rattle.bids.specs.Points.{Point, curve, largest_mwh, total_mwh, share, mwh_at, Exposure, tried, exposure, wheel_exposure}
 use Rattle.bids.specs.Bids.{import_bid, export_bid, hour_ahead_bid, bid_mwh, bid_requirement}
 pub use Rattle.bids.specs.Rows.{Fit}
 use Rattle.bids.specs.Rows.{point_rows, bid_rows}
+use Rattle.bids.specs.Entries.{bid_verdict}
+use Rattle.bids.proofs.Walks.{point_at}
 use Rattle.bids.proofs.Largest.{exposure-only}
+
+-- where each element passes a test, so does what stands at any place, if what is read past the end does
+every-at : {A : Type 0} (p : A → Bool) (d : A) → p d ≡ true → (xs : List A) → every p xs ≡ true → (k : ℕ) → p (get_or xs k d) ≡ true
+unfolding every
+every-at p d h [] e k = h
+every-at p d h (x ∷ xs) e zero = and_left (p x) (every p xs) e
+every-at p d h (x ∷ xs) e (suc k) = every-at p d h xs (and_right (p x) (every p xs) e) k
 
 -- ---- rows
 
@@ -50,10 +59,24 @@ fit {ms} {ps} h =
       prices = not-false (every is_price ps) h.1.1.0;
     }
 
+-- the point at a place
+pub fit-point : {ms : List ℕ} {ps : List ℤ} → Fit ms ps → (k : ℕ) {q : Point} → q ≡ point_at ms ps k → (is_point_mwh q.mwh ≡ true) × (is_price q.price ≡ true)
+fit-point {ms} {ps} f k e =
+    (ap (λ (q : Point). is_point_mwh q.mwh) e ∙ every-at is_point_mwh 0 refl ms f.mwhs k, ap (λ (q : Point). is_price q.price) e ∙ every-at is_price (pos 0) refl ps f.prices k)
+
+pub fit-mwh : {ms : List ℕ} {ps : List ℤ} → Fit ms ps → (k : ℕ) → get_or ms k 0 ≤ 10000
+fit-mwh {ms} f k = leb-true (get_or ms k 0) 10000 (every-at is_point_mwh 0 refl ms f.mwhs k)
+
 -- what a test leaves of a number
 shared : (t : Bool) {m k : ℕ} → m ≤ k → cond t m 0 ≤ k
 shared true h = h
 shared false h = zero-le
+
+pub fit-share : {ms : List ℕ} {ps : List ℤ} → Fit ms ps → (k p : ℕ) {q : Point} → q ≡ point_at ms ps k → share p q ≤ 10000
+fit-share {ms} {ps} f k p e = subst (λ (q : Point). share p q ≤ 10000) (sym e) (shared (le_z (pos p) (get_or ps k (pos 0))) (fit-mwh f k))
+
+pub fit-tried : {ms : List ℕ} {ps : List ℤ} → Fit ms ps → (k : ℕ) {q : Point} → q ≡ point_at ms ps k → up q.price ≤ 1000000
+fit-tried f k {q} e = (range-true 1000000 1000000 q.price (fit-point f k e).1).high
 
 pub fit-bid : (kind : ℕ) (ms : List ℕ) (ps : List ℤ) (d : ℕ) → None (bid_rows kind ms ps d) → None (point_rows ms ps) × (differential_fits (rules_of kind) d ≡ true)
 unfolding None bid_rows
@@ -75,6 +98,23 @@ no-quarter kind ms ps d h e = never (sym (one-curve kind ms ps d h).0 ∙ ap (λ
 
 no_sides : (kind : ℕ) (ms : List ℕ) (ps : List ℤ) (d : ℕ) → None (bid_rows kind ms ps d) → kind ≡ virtual → ⊥
 no_sides kind ms ps d h e = never (sym (one-curve kind ms ps d h).1 ∙ ap (λ (r : Rules). r.sides) (rules-6 kind e))
+
+-- a bid that the table gives no number
+pub bid-stands : (kind : ℕ) (ms : List ℕ) (ps : List ℤ) (d n : ℕ) → n ≡ first (kind_row kind ∷ bid_rows kind ms ps d) → n ≡ 0 → None (point_rows ms ps) × (differential_fits (rules_of kind) d ≡ true)
+unfolding None numbered
+bid-stands kind ms ps d n e z = fit-bid kind ms ps d (none-applies (kind_row kind ∷ bid_rows kind ms ps d) (bid-rows-numbered kind ms ps d) (sym e ∙ z)).1
+
+-- what is answered, by the table's number n
+module _ (kind : ℕ) (ms : List ℕ) (ps : List ℤ) (d : ℕ) (exempt : Bool) (n : ℕ) (e : n ≡ first (kind_row kind ∷ bid_rows kind ms ps d)) where
+  pub refused-bid : (n ≡ 0 → ⊥) → refuse n ≡ bid_verdict kind ms ps d exempt
+  unfolding bid_verdict judge
+  refused-bid h =
+      rw (← e) (sym (answered-some n (record { mwh = bid_mwh kind (curve ms ps); cents = bid_requirement kind (curve ms ps) d exempt }) h))
+
+  pub standing-bid : n ≡ 0 → {m : ℕ} {y z : ℤ} → m ≡ bid_mwh kind (curve ms ps) → y ≡ z → z ≡ bid_requirement kind (curve ms ps) d exempt → accept (record { mwh = m; cents = y }) ≡ bid_verdict kind ms ps d exempt
+  unfolding bid_verdict judge
+  standing-bid none p q r =
+      rw (← e, none, p, q, r) (sym (answered-none (record { mwh = bid_mwh kind (curve ms ps); cents = bid_requirement kind (curve ms ps) d exempt })))
 
 -- what the bid's table leaves
 pub bid-passed : (kind : ℕ) (ms : List ℕ) (ps : List ℤ) (d : ℕ) → ◌≡◌ {A = Verdict (Unit {0})} (accept (tt {0})) (judge (kind_row kind ∷ bid_rows kind ms ps d) (tt {0})) → None (point_rows ms ps) × (differential_fits (rules_of kind) d ≡ true)

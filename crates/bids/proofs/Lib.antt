@@ -1,4 +1,6 @@
 pub mod Largest
+pub mod Walks
+pub mod Prices
 pub mod Chains
 pub mod Curves
 pub mod Joining

@@ -3,7 +3,7 @@
 use mathlib.Core.Path.{◌≡◌, refl, ap, ◌∙◌}
 use mathlib.Core.Bool.{Bool, true, false, ◌&&◌}
 use mathlib.Core.List.{List, [], ◌∷◌, ◌++◌, map}
-use Prim.Native.Nat.{ℕ, ◌≤◌}
+use Prim.Native.Nat.{ℕ, suc, ◌≤◌}
 use lib.Dec.{leb, eqb}
 use lib.IntN.{ℤ}
 use lib.ListN.{length, length-map}
@@ -25,6 +25,10 @@ curve-of [] = refl
 curve-of (q ∷ qs) = ap (λ (l : List Point). q ∷ l) (curve-of qs)
 
 module _ {A B : Type 0} (f : A → B) where
+  pub map-length : (l : List A) → length (map f l) ≡ length l
+  map-length [] = refl
+  map-length (x ∷ xs) = ap suc (map-length xs)
+
   pub every_map : (t : B → Bool) (l : List A) → every t (map f l) ≡ every (λ x. t (f x)) l
   unfolding every
   every_map t [] = refl

@@ -5,7 +5,10 @@ use mathlib.Core.Bool.{Bool, true, false, cond}
 use mathlib.Core.List.{List, [], ◌∷◌, map}
 use mathlib.Core.Option.{some}
 use Prim.Native.Nat.{ℕ, suc, ◌+◌, ◌-◌, ◌<◌, ◌≤◌}
+use native.Mathlib.Numerals.{add-one}
 use native.Mathlib.Omega.{arith}
+use lib.Dec.{eqb}
+use borrow.Author.Tests.{eq-eqb, ne_eqb, eqb-true, eqb-false}
 use lib.ListN.{length, get_or, drop, set, length-map, get_or-map}
 use lib.Seq.{get_or-set_same, get_or-set_other, ext_get_or}
 use mathlib.Core.Logic.{⊎_elim}
@@ -107,6 +110,61 @@ module _ (p : Record → Bool) where
   unfolding find position or_else_blank
   find-standing [] = refl
   find-standing (x ∷ xs) = find-by x xs (p x) (position p xs) (find-standing xs)
+
+-- ---- the same by how many places stand before it
+
+-- how many places stand before the first that passes; all of them where none does
+unfoldable pub index : {A : Type 0} → (A → Bool) → List A → ℕ
+index p [] = 0
+index p (x ∷ xs) = cond (p x) 0 (index p xs + 1)
+
+module _ {A : Type 0} (p : A → Bool) (l : List A) (i : ℕ) (d : A) (h : 0 < i) (g : i ≤ length l) where
+  index-by : (b : Bool) (n : ℕ) → n ≡ i + index p (drop i l) → cond b (i - 1) n ≡ (i - 1) + cond b 0 (index p (drop i l) + 1)
+  index-by true n e = omega arith
+  index-by false n e = omega arith
+
+  -- the place that passes, counted from the start: the one at hand, or the one known so far
+  pub index_back : (n : ℕ) → n ≡ i + index p (drop i l) → cond (p (get_or l (i - 1) d)) (i - 1) n ≡ (i - 1) + index p (drop (i - 1) l)
+  unfolding index
+  index_back n e = rw (drop-back l i d h g) (index-by (p (get_or l (i - 1) d)) n e)
+
+module _ {A : Type 0} (p : A → Bool) where
+  set-by : (r x : A) (xs : List A) (b : Bool) → swap p r xs ≡ set xs (index p xs) r → cond b (r ∷ xs) (x ∷ swap p r xs) ≡ set (x ∷ xs) (cond b 0 (index p xs + 1)) r
+  set-by r x xs true ih = refl
+  set-by r x xs false ih = rw add-one (ap (λ (l : List A). x ∷ l) ih)
+
+  -- overwriting the first place that passes is a store at its index
+  pub swap-set : (r : A) (xs : List A) → swap p r xs ≡ set xs (index p xs) r
+  unfolding swap index
+  swap-set r [] = refl
+  swap-set r (x ∷ xs) = set-by r x xs (p x) (swap-set r xs)
+
+  index-none : (x : A) (xs : List A) (b : Bool) → missing (find p xs) ≡ eqb (index p xs) (length xs) → missing (cond b (some x) (find p xs)) ≡ eqb (cond b 0 (index p xs + 1)) (suc (length xs))
+  unfolding missing
+  index-none x xs true ih = sym (ne_eqb 0 (suc (length xs)) (λ e. omega arith))
+  index-none x xs false ih = ih ∙ by (eqb (index p xs) (length xs)) refl
+    where
+      by : (b : Bool) → eqb (index p xs) (length xs) ≡ b → b ≡ eqb (index p xs + 1) (suc (length xs))
+      by true e = sym (eq-eqb (index p xs + 1) (suc (length xs)) (omega (arith, eqb-true (index p xs) (length xs) e)))
+      by false e = sym (ne_eqb (index p xs + 1) (suc (length xs)) (λ q. eqb-false (index p xs) (length xs) e (omega arith)))
+
+  -- no place passes exactly where the index is the count of places
+  pub missing-index : (xs : List A) → missing (find p xs) ≡ eqb (index p xs) (length xs)
+  unfolding find index missing
+  missing-index [] = refl
+  missing-index (x ∷ xs) = index-none x xs (p x) (missing-index xs)
+
+module _ {A : Type 0} (p : A → Bool) (d : A) where
+  get-by : (x : A) (xs : List A) (b : Bool) → or_else_blank d (find p xs) ≡ get_or xs (index p xs) d → or_else_blank d (cond b (some x) (find p xs)) ≡ get_or (x ∷ xs) (cond b 0 (index p xs + 1)) d
+  unfolding or_else_blank
+  get-by x xs true ih = refl
+  get-by x xs false ih = rw add-one ih
+
+  -- what is found stands at the index; past the last place nothing does
+  pub find-get : (xs : List A) → or_else_blank d (find p xs) ≡ get_or xs (index p xs) d
+  unfolding find index or_else_blank
+  find-get [] = refl
+  find-get (x ∷ xs) = get-by x xs (p x) (find-get xs)
 
 -- ---- a list made place by place, from the end
 module _ {A : Type 0} (f : A → ℕ) (d : A) (l : List A) where

@@ -1,8 +1,9 @@
 -- Whether a book is sound is what a message that is always refused answers: a support below 0.
 -- Assumes nothing.
 use mathlib.Core.Path.{◌≡◌, refl, ap, ◌∙◌}
-use mathlib.Core.Bool.{Bool, true, false, cond}
+use mathlib.Core.Bool.{Bool, true, false, not, cond}
 use mathlib.Core.List.{[]}
+use lib.Dec.{eqb}
 use lib.IntN.{negsuc}
 use Rattle.refusals.specs.Refusals.{first, Verdict, refuse, judge, answered}
 use Rattle.messages.specs.declared.types.Deed.{Deed}
@@ -31,3 +32,10 @@ module _ (b : Book) where
   unfolding step concluded
   always-refused =
       ap (λ (v : Verdict Deed). (outcome b [] [] v).answer) (verdict-is b question [] [] ∙ ap (concluded b []) turned) ∙ refused_as (sound b) refl
+
+  shown-sound : (t : Bool) → not (eqb (cond t 9 1) 1) ≡ t
+  shown-sound true = refl
+  shown-sound false = refl
+
+  pub sound-shown : not (eqb (cond (sound b) 9 1) 1) ≡ sound b
+  sound-shown = shown-sound (sound b)

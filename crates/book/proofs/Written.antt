@@ -343,9 +343,9 @@ module _ (b : Book) (m : Message) (ms : List ℕ) (ps : List ℤ) (s : View) (fe
       let passed = (judge-accept (plan_rows old m ms ps) (deed_for old m ms ps) (CloseHour hour) (plan-rows-numbered old m ms ps) e).0 in
       subst (λ (x : Message). None (plan_rows old x ms ps)) (fits old m ms ps (CloseHour hour) (lookup-under b (key_of m) h) e).is passed
 
-  handed-by : (t : Bool) → sound b ≡ t → OfBatch (HandedOn b m ms ps) (ended s (verdict_of p)).left
+  left_by : (t : Bool) → sound b ≡ t → OfBatch (HandedOn b m ms ps) (ended s (verdict_of p)).left
   unfolding step concluded admitted unsound
-  handed-by true h =
+  left_by true h =
       batch-too (λ (hour : ℕ). plan old m ms ps ≡ accept (CloseHour hour)) (HandedOn b m ms ps)
       (λ hour e. record {
         sane = h;
@@ -356,10 +356,13 @@ module _ (b : Book) (m : Message) (ms : List ℕ) (ps : List ℤ) (s : View) (fe
             ∙ ap (λ (v : Verdict Deed). outcome b ms ps (admitted b ms v)) e;
       })
       (ended s (verdict_of p)).left (batch-sound h)
-  handed-by false h = subst (λ (e : Ending). OfBatch (HandedOn b m ms ps) e.left) (sym (unsound-is h)) tt
+  left_by false h = subst (λ (e : Ending). OfBatch (HandedOn b m ms ps) e.left) (sym (unsound-is h)) tt
 
   pub handed-on : OfBatch (HandedOn b m ms ps) (ended s (verdict_of p)).left
-  handed-on = handed-by (sound b) refl
+  handed-on = left_by (sound b) refl
+
+  pub left : (hour : ℕ) → (ended s (verdict_of p)).left ≡ Batch hour → HandedOn b m ms ps hour
+  left hour e = subst (OfBatch (HandedOn b m ms ps)) e handed-on
 
   pub summable : s.sound ≡ true → Summable s p
   summable t =

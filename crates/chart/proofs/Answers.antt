@@ -1,5 +1,5 @@
 -- What the lookup answers, in the paper's numbers.
-use mathlib.Core.Path.{◌≡◌, sym, ◌∙◌}
+use mathlib.Core.Path.{◌≡◌, refl, sym, ◌∙◌}
 use mathlib.Core.Bool.{Bool, true, false, cond, ◌&&◌}
 use Prim.Native.Nat.{ℕ, ◌≤◌}
 use lib.Dec.{eqb}
@@ -12,6 +12,18 @@ use Rattle.chart.specs.Lookup.{Answer, At, GroupOnly, Refused, bus_in_range, in_
 use Rattle.chart.specs.declared.Table.{Table}
 use Rattle.chart.proofs.Eighteen.{eighteen-parted}
 use Rattle.chart.proofs.Places.{Cell, on-chart, bounds}
+
+number_by : (b : Bool) (g x k : ℕ) → number_of (Ok (cond b (At g x) (GroupOnly k))) ≡ 0
+number_by true g x k = refl
+number_by false g x k = refl
+
+group-by : (b : Bool) (g x k : ℕ) → group_of (Ok (cond b (At g x) (GroupOnly k))) ≡ cond b g k
+group-by true g x k = refl
+group-by false g x k = refl
+
+cents-by : (b : Bool) (g x k : ℕ) → cents_of (Ok (cond b (At g x) (GroupOnly k))) ≡ cond b x 0
+cents-by true g x k = refl
+cents-by false g x k = refl
 
 module _ (edition : ℕ) (table : Table) (bus month day_type hour : ℕ) where
   abbrev inside : Bool

@@ -1,10 +1,11 @@
 -- The eighteen groups part the year, and 01's sentence on seasons and periods gives the same groups.
 use mathlib.Core.Path.{◌≡◌, refl}
-use Prim.Native.Nat.{ℕ, ◌+◌, ◌*◌}
-use mathlib.Core.Bool.{true}
+use Prim.Native.Nat.{ℕ, ◌+◌, ◌*◌, ◌≤◌}
+use mathlib.Core.Bool.{Bool, true, false, cond}
+use native.Mathlib.Omega.{arith}
 use borrow.Author.Tests.{eqb-true}
 use lib.Dec.{eqb}
-use Rattle.chart.specs.Groups.{has, eighteen, groups_at, group_in, time_in_range, Parted, season_of, period_of}
+use Rattle.chart.specs.Groups.{has, eighteen, groups_at, group_in, time_in_range, Parted, summer, winter, season_of, period_of}
 use Rattle.chart.proofs.Parted.{parted, at-time}
 
 pub eighteen-parted : Parted 18 eighteen
@@ -26,3 +27,12 @@ july-22 = refl
 pub july-23 : group_in eighteen 7 0 23 ≡ 6
 unfolding has eighteen groups_at group_in
 july-23 = refl
+
+pub season-last : (m : ℕ) → season_of m ≤ 2
+unfolding season_of
+season-last m = by (has summer m) (has winter m)
+  where
+    by : (s w : Bool) → cond s 0 (cond w 1 2) ≤ 2
+    by true w = omega arith
+    by false true = omega arith
+    by false false = omega arith

@@ -65,6 +65,10 @@ placed Export bus group c =
     ∙ after (joined import_table) (joined export_table) ((bus - 1) * 18 + (group - 1))
     ∙ in-joined export_table refl (bus - 1) (group - 1) (omega arith) (omega arith)
 
+pub start-last : (table : Table) → start_of table ≤ 180
+start-last Import = omega arith
+start-last Export = omega arith
+
 bounded : ℕ → Bool
 bounded cents = leb 2388 cents && leb cents 32148
 

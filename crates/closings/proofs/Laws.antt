@@ -14,7 +14,7 @@ use Rattle.amounts.specs.Limits.{is_quantity, is_price}
 use Rattle.amounts.specs.Lists.{every}
 use Rattle.amounts.proofs.Signed.{signed, tested, larger-of, times-of, range-true, range-times, range-add}
 use Rattle.distinct.specs.Numbers.{stands_in}
-use Rattle.refusals.specs.Refusals.{Verdict, accept, first, None, judge}
+use Rattle.refusals.specs.Refusals.{Verdict, accept, refuse, first, None, judge}
 use Rattle.refusals.specs.Figures.{cents_of}
 use Rattle.refusals.proofs.Laws.{numbered, and_left, and_right, none-applies, judge-none, answered-some}
 use Rattle.kinds.specs.Kinds.{quarter_hour, rules_of, is_path}
@@ -133,6 +133,10 @@ module _ (s : Intervals) (q : Quote) where
   pub closed-accepted : None (closed_rows s q) → closed_verdict s q ≡ accept (closed_requirement s q)
   unfolding closed_verdict
   closed-accepted h = judge-none (closed_rows s q) (closed_requirement s q) h
+
+  pub closed-refused : (first (closed_rows s q) ≡ 0 → ⊥) → closed_verdict s q ≡ refuse (first (closed_rows s q))
+  unfolding closed_verdict judge
+  closed-refused h = answered-some (first (closed_rows s q)) (closed_requirement s q) h
 
   pub closed_is : None (closed_rows s q) → cents_of (closed_verdict s q) ≡ closed_requirement s q
   closed_is h = ap cents_of (closed-accepted h)

@@ -3,7 +3,7 @@
 use mathlib.Core.Path.{◌≡◌, refl, sym, ap, subst, ◌∙◌}
 use mathlib.Core.Bool.{Bool, true, false, not, cond, ◌&&◌, ◌||◌}
 use mathlib.Core.List.{List, [], ◌∷◌, ◌++◌}
-use Prim.Native.Nat.{ℕ, zero, suc, ◌+◌, ◌*◌, ◌-◌, ◌<◌, ◌≤◌}
+use Prim.Native.Nat.{ℕ, zero, suc, ◌+◌, ◌*◌, ◌-◌, ◌/◌, ◌%◌, ◌<◌, ◌≤◌}
 use native.Mathlib.Nat.{le_refl}
 use native.Mathlib.Omega.{arith}
 use lib.Dec.{leb, eqb}
@@ -16,8 +16,9 @@ use borrow.Author.Tests.{eqb-true, eqb-false, eq-eqb, ne_eqb, leb-true}
 use Rattle.amounts.specs.Lists.{every}
 use Rattle.amounts.proofs.Signed.{tested}
 use Rattle.distinct.specs.Numbers.{stands_in}
-use Rattle.refusals.proofs.Laws.{and_left, and_right, never}
+use Rattle.refusals.proofs.Laws.{and_left, and_right, and_both, never}
 use Rattle.kinds.specs.Kinds.{quarter_hour, by_kind, rules_of, is_path}
+use Rattle.keys.proofs.Laws.{by-test}
 use Rattle.closings.specs.Closings.{Quote, place_of, quote_at, each_once}
 use Rattle.closings.specs.Listing.{slot, Lists}
 
@@ -34,6 +35,10 @@ pub path-range : (path : ℕ) → is_path (rules_of quarter_hour) path ≡ true 
 unfolding rules_of by_kind
 path-range path h = (leb-true 1 path (and_left (leb 1 path) (leb path 999) h), leb-true path 999 (and_right (leb 1 path) (leb path 999) h))
 
+-- past the end a list reads 0
+pub paths-low : (paths : List ℕ) → every (is_path (rules_of quarter_hour)) paths ≡ true → (k : ℕ) → get_or paths k 0 ≤ 999
+paths-low paths h k = every-at (λ (n : ℕ). n ≤ 999) (is_path (rules_of quarter_hour)) 0 (omega arith) (λ n e. (path-range n e).1) paths h k
+
 -- what is at a place of the list
 paths-low-at : (paths : List ℕ) → every (is_path (rules_of quarter_hour)) paths ≡ true → (k path : ℕ) → k < length paths → path ≡ get_or paths k path → path ≤ 999
 unfolding every
@@ -42,6 +47,15 @@ paths-low-at (p ∷ ps) h zero path lt e = rw e (path-range p (and_left (is_path
 paths-low-at (p ∷ ps) h (suc k) path lt e = paths-low-at ps (and_right (is_path (rules_of quarter_hour) p) (every (is_path (rules_of quarter_hour)) ps) h) k path (omega arith) e
 
 -- ---- where a path stands
+place-by : (path p : ℕ) (ps : List ℕ) (b : Bool) → (b || stands_in path ps) ≡ true → (stands_in path ps ≡ true → place_of path ps < length ps) → cond b 0 (place_of path ps + 1) < suc (length ps)
+place-by path p ps true h ih = omega arith
+place-by path p ps false h ih = omega (arith, ih h)
+
+pub stands-place : (path : ℕ) (l : List ℕ) → stands_in path l ≡ true → place_of path l < length l
+unfolding stands_in place_of
+stands-place path [] h = never h
+stands-place path (p ∷ ps) h = place-by path p ps (eqb path p) h (stands-place path ps)
+
 none-by : (path p : ℕ) (ps : List ℕ) (b : Bool) → (b || stands_in path ps) ≡ false → (stands_in path ps ≡ false → place_of path ps ≡ length ps) → cond b 0 (place_of path ps + 1) ≡ suc (length ps)
 none-by path p ps true h ih = never (sym h)
 none-by path p ps false h ih = omega (arith, ih h)
@@ -170,6 +184,9 @@ module _ (paths table : List ℕ) (seen : Bool) (left rest : List ℕ) (here : �
         once = once_more paths table (length rest) here (omega (arith, s.long, w.front.few)) s.is entered seen (w.once ∙ ap (λ k. each_once (drop k paths)) s.long) here_low;
       }
 
+pub entered_all : (paths table : List ℕ) → Entered paths table 0 → Lists paths table
+entered_all paths table e = record { size = e.size; entry = e.entry }
+
 -- ---- what an entry says
 module _ (paths table : List ℕ) (l : Lists paths table) (path : ℕ) (low : path < 1024) where
   -- it is above 0 exactly where the path is listed
@@ -206,3 +223,18 @@ module _ (prices : List ℤ) (place : ℕ) (out : length prices ≤ place * 4) w
 
 pub quote-unlisted : (path : ℕ) (paths : List ℕ) (prices : List ℤ) → length prices ≡ length paths * 4 → stands_in path paths ≡ false → quote_at (place_of path paths) prices ≡ no_quote
 quote-unlisted path paths prices four e = let out = stands-none path paths e in quote-past prices (place_of path paths) (omega arith)
+
+-- ---- four to a path, by quotient and rest
+four-yes : (n m : ℕ) → (eqb (n / 4) m && eqb (n % 4) 0) ≡ true → eqb n (m * 4) ≡ true
+four-yes n m h =
+    let q = eqb-true (n / 4) m (and_left (eqb (n / 4) m) (eqb (n % 4) 0) h) in
+    let r = eqb-true (n % 4) 0 (and_right (eqb (n / 4) m) (eqb (n % 4) 0) h) in
+    eq-eqb n (m * 4) (omega arith)
+
+four-back : (n m : ℕ) → eqb n (m * 4) ≡ true → (eqb (n / 4) m && eqb (n % 4) 0) ≡ true
+four-back n m h =
+    let e = eqb-true n (m * 4) h in
+    and_both (eqb (n / 4) m) (eqb (n % 4) 0) (eq-eqb (n / 4) m (omega arith)) (eq-eqb (n % 4) 0 (omega arith))
+
+pub four-each : (n m : ℕ) → (eqb (n / 4) m && eqb (n % 4) 0) ≡ eqb n (m * 4)
+four-each n m = by-test (eqb (n / 4) m && eqb (n % 4) 0) (eqb n (m * 4)) (four-yes n m) (four-back n m)

@@ -1,3 +1,4 @@
+mod Halves
 pub mod Keeping
 pub mod Parts
 pub mod Rows

@@ -1,12 +1,12 @@
 -- When numbers stand apart; and that a walk along a bucket's chain passes over no equal number. Any list.
 -- Assumes nothing.
-use mathlib.Core.Path.{◌≡◌, refl, sym, ap, ◌∙◌}
+use mathlib.Core.Path.{◌≡◌, refl, sym, ap, subst, ◌∙◌}
 use mathlib.Core.Bool.{Bool, true, false, not, ◌||◌}
 use mathlib.Core.List.{List, [], ◌∷◌, map}
 use mathlib.Core.Logic.{◌⊎◌, inl, inr, ⊎_elim}
 use Prim.Native.Nat.{ℕ, zero, suc, ◌+◌, ◌-◌, ◌≤◌, ◌<◌}
 use native.Mathlib.Omega.{arith}
-use lib.Dec.{eqb, ltb}
+use lib.Dec.{T, eqb, ltb}
 use lib.ListN.{length, get_or, get_or-map, set, replicate, length-set}
 use Rattle.std.proofs.Common.{Option, None, Some}
 use Rattle.std.proofs.lemmas.Bool.{or_right, and_right}
@@ -17,6 +17,9 @@ use Rattle.distinct.specs.Numbers.{stands_in, all_distinct}
 use Rattle.distinct.specs.Chain.{bucket_of, counted, Latest, Linked, Unmet}
 
 -- ---- tests
+pub never : {X : Type 0} → true ≡ false → X
+never e = absurd (subst T e tt)
+
 decide : (b : Bool) → (b ≡ true) ⊎ (b ≡ false)
 decide true = inl refl
 decide false = inr refl
@@ -120,6 +123,28 @@ module _ (codes : List ℕ) (n : ℕ) (held : 0 < get_or codes n 0) where
   passed : (m at k : ℕ) → Latest codes (bucket_of (get_or codes n 0)) m at → k < m → at ≤ k → get_or codes k 0 ≡ get_or codes n 0 → ⊥
   passed m at k l b a e = omega (arith, l.last k b a (ap bucket_of e))
 
+  pub walk-starts : (at : ℕ) → Latest codes (bucket_of (get_or codes n 0)) n at → Walked codes n at
+  walk-starts at l =
+      record { before = l.before; holds = l.holds; falls = l.falls; unmet = λ k. passed n at k l }
+
+  pub walk-goes : (at next : ℕ) → 0 < at → Walked codes n at → (get_or codes (at - 1) 0 ≡ get_or codes n 0 → ⊥) → Latest codes (bucket_of (get_or codes (at - 1) 0)) (at - 1) next → Walked codes n next
+  walk-goes at next p w other link =
+      let l : Latest codes (bucket_of (get_or codes n 0)) (at - 1) next = rw (w.falls p) at link in
+      record {
+        before = omega (arith, l.before, w.before);
+        holds = l.holds;
+        falls = l.falls;
+        unmet = λ k b a e.
+            ⊎_elim
+            (λ (i : k ≡ at - 1). other (rw i at e))
+            (λ i.
+            ⊎_elim
+            (λ (m : k < at - 1). passed (at - 1) next k l m a e)
+            (λ (m : at - 1 ≤ k). w.unmet k b (omega arith) e)
+            (split k (at - 1)))
+            (same k (at - 1));
+      }
+
   -- at a place of the chain: it holds n's number, or the walk goes on from its link
   module _ (at : Option ℕ) (earlier : ℕ) (is : at ≡ Some earlier) (arrived : Walked codes n (counted at)) where
     walked : Walked codes n (earlier + 1)
@@ -177,6 +202,9 @@ module _ (codes : List ℕ) where
         unmet = below_none _;
       }
 
+  pub chains-start : Chained codes (replicate 256 None) (replicate 256 None) 0
+  chains-start = chains_start
+
   module _ (latest links : List (Option ℕ)) (n : ℕ) (c : Chained codes latest links n) where
     pub chains_pass : get_or codes n 0 ≡ 0 → Chained codes latest links (n + 1)
     chains_pass z =
@@ -217,6 +245,12 @@ module _ (codes : List ℕ) where
               (λ q. rw (link_at last n, get_or-set_same links n last None (omega (arith, c.places)), ← b) (c.ends bucket));
           unmet = below_more _ n c.unmet (λ q. u);
         }
+
+    pub chains-pass : get_or codes n 0 ≡ 0 → Chained codes latest links (n + 1)
+    chains-pass z = chains_pass z
+
+    pub chains-grow : (bucket : ℕ) → n < 256 → bucket ≡ bucket_of (get_or codes n 0) → 0 < get_or codes n 0 → Unmet codes n → Chained codes (set latest bucket (Some n)) (set links n (get_or latest bucket None)) (n + 1)
+    chains-grow bucket m b p u = chains_grow bucket m b p u
 
     pub all_met : 256 ≤ n → length codes ≡ 256 → true ≡ all_distinct codes
     all_met m e = sym (apart-true codes (λ k l. c.unmet k (omega arith)))

@@ -3,6 +3,7 @@
 use mathlib.Core.Path.{◌≡◌, ap, ◌∙◌}
 use mathlib.Core.Bool.{true, ◌&&◌}
 use Prim.Native.Nat.{ℕ}
+use native.Mathlib.Omega.{arith}
 use lib.IntN.{ℤ, pos}
 use mir.Syntax.{w64}
 use mir.Val.{SFits, to_z, of_z}
@@ -19,12 +20,18 @@ use Rattle.deliveries.specs.Rows.{delivery_rows, posted_rows, finished_rows}
 
 -- ---- a parameter that passed its test, as the code reads it
 
--- a quantity and a differential after `as i64`
+-- a quantity and a differential after `as i64`, and that the cast loses nothing
 pub mwh : (n : ℕ) → is_quantity n ≡ true → Known (to_z w64 n) (pos n) 0 640000
 mwh n h = quantity (leb-true n 640000 h) tt
 
+pub mwh-cast : (n : ℕ) → is_quantity n ≡ true → SFits w64 (pos n)
+mwh-cast n h = record { sfits = omega (arith, leb-true n 640000 h) }
+
 pub differential : (n : ℕ) → is_differential n ≡ true → Known (to_z w64 n) (pos n) 0 1000000
 differential n h = quantity (leb-true n 1000000 h) tt
+
+pub differential-cast : (n : ℕ) → is_differential n ≡ true → SFits w64 (pos n)
+differential-cast n h = record { sfits = omega (arith, leb-true n 1000000 h) }
 
 pub price : (z : ℤ) → is_price z ≡ true → Known (to_z w64 (of_z w64 z)) z 1000000 1000000
 price z h = read (range-true 1000000 1000000 z h) tt

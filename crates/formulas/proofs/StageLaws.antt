@@ -12,15 +12,15 @@ use lib.IntN.{ℤ, pos, neg_ℤ, ◌+ℤ◌, ◌-ℤ◌, ◌*ℤ◌}
 use Rattle.amounts.specs.Amount.{up, down, max_of, Range, in_range}
 use Rattle.amounts.specs.Limits.{is_point_mwh, is_quantity, is_price, is_differential, is_pending, is_finished}
 use Rattle.amounts.proofs.Signed.{signed, up_neg, down-neg, sub-flip, neg-mul, sum_of, difference-of, larger-of, times-of, mul_mono, max-gap, tested, range-true, range-wider, range-add, range-sub, range-max, range-times, range-mul}
-use Rattle.refusals.specs.Refusals.{accept, None}
-use Rattle.refusals.proofs.Laws.{judge-none}
+use Rattle.refusals.specs.Refusals.{first, judge, refuse, accept, None}
+use Rattle.refusals.proofs.Laws.{answered-some, judge-none}
 use Rattle.kinds.specs.declared.Rules.{Rules}
 use Rattle.kinds.specs.Kinds.{wheel, is_kind, kind_row, by_kind, rules_of, import_rules, export_rules, hour_ahead_rules, wheel_rules, quarter_hour_rules, virtual_rules, bid_mwh_fits, pending_fits}
 use Rattle.kinds.proofs.ByKind.{by-kind, rules-1, rules-2, rules-3, rules-4, rules-5, rules-6}
 use Rattle.kinds.proofs.Fits.{range-test, pending-range, pending-bid, pending-wheel, exempt-range}
 use Rattle.formulas.specs.Stages.{import_posted, balancing, import_finished, export_posted, export_finished, hour_ahead_finished, wheel_posted, wheel_finished, posted_requirement, finished_requirement}
-use Rattle.deliveries.specs.Rows.{posted_rows, finished_rows}
-use Rattle.formulas.specs.Entries.{posted_verdict, finished_verdict}
+use Rattle.deliveries.specs.Rows.{posted_rows, finished_rows, bill_rows}
+use Rattle.formulas.specs.Entries.{posted_verdict, finished_verdict, billed_verdict}
 use Rattle.formulas.proofs.Given.{posting, finish}
 
 nothing : Range 0 0 (pos 0)
@@ -145,13 +145,31 @@ pub finished-met : None (kind_row wheel ∷ finished_rows wheel 0 (pos 0) (pos 2
 unfolding None finished_rows finished_requirement by_kind rules_of wheel_finished
 finished-met = ((refl, (refl, (refl, (refl, tt)))), refl)
 
--- ---- what an entry answers where no row applies
+-- ---- what an entry answers, by whether a row applies
 pub posted-accepted : (kind differential : ℕ) (exempt : Bool) (schedule : ℕ) (price second : ℤ) → None (kind_row kind ∷ posted_rows kind differential schedule price second) → posted_verdict kind differential exempt schedule price second ≡ accept (posted_requirement kind differential exempt schedule price second)
 unfolding posted_verdict
 posted-accepted kind differential exempt schedule price second h =
     judge-none (kind_row kind ∷ posted_rows kind differential schedule price second) (posted_requirement kind differential exempt schedule price second) h
 
+pub posted-refused : (kind differential : ℕ) (exempt : Bool) (schedule : ℕ) (price second : ℤ) → (first (kind_row kind ∷ posted_rows kind differential schedule price second) ≡ 0 → ⊥) → posted_verdict kind differential exempt schedule price second ≡ refuse (first (kind_row kind ∷ posted_rows kind differential schedule price second))
+unfolding posted_verdict judge
+posted-refused kind differential exempt schedule price second h =
+    answered-some (first (kind_row kind ∷ posted_rows kind differential schedule price second)) (posted_requirement kind differential exempt schedule price second) h
+
 pub finished-accepted : (kind : ℕ) (exempt : Bool) (schedule : ℕ) (day_ahead posted : ℤ) (actual : ℕ) (price second : ℤ) → None (kind_row kind ∷ finished_rows kind schedule day_ahead posted actual price second) → finished_verdict kind exempt schedule day_ahead posted actual price second ≡ accept (finished_requirement kind exempt schedule day_ahead posted actual price second)
 unfolding finished_verdict
 finished-accepted kind exempt schedule day_ahead posted actual price second h =
     judge-none (kind_row kind ∷ finished_rows kind schedule day_ahead posted actual price second) (finished_requirement kind exempt schedule day_ahead posted actual price second) h
+
+pub finished-refused : (kind : ℕ) (exempt : Bool) (schedule : ℕ) (day_ahead posted : ℤ) (actual : ℕ) (price second : ℤ) → (first (kind_row kind ∷ finished_rows kind schedule day_ahead posted actual price second) ≡ 0 → ⊥) → finished_verdict kind exempt schedule day_ahead posted actual price second ≡ refuse (first (kind_row kind ∷ finished_rows kind schedule day_ahead posted actual price second))
+unfolding finished_verdict judge
+finished-refused kind exempt schedule day_ahead posted actual price second h =
+    answered-some (first (kind_row kind ∷ finished_rows kind schedule day_ahead posted actual price second)) (finished_requirement kind exempt schedule day_ahead posted actual price second) h
+
+pub billed-accepted : (amount : ℤ) → None (bill_rows amount) → billed_verdict amount ≡ accept amount
+unfolding billed_verdict
+billed-accepted amount h = judge-none (bill_rows amount) amount h
+
+pub billed-refused : (amount : ℤ) → (first (bill_rows amount) ≡ 0 → ⊥) → billed_verdict amount ≡ refuse (first (bill_rows amount))
+unfolding billed_verdict judge
+billed-refused amount h = answered-some (first (bill_rows amount)) amount h

@@ -1,13 +1,47 @@
 -- The import test's answer, case by case and in the paper's words.
-use mathlib.Core.Path.{◌≡◌, ◌∙◌, sym}
-use mathlib.Core.Bool.{true, false, cond}
+use mathlib.Core.Path.{◌≡◌, refl, ap, ◌∙◌, sym}
+use mathlib.Core.Bool.{Bool, true, false, cond}
 use Prim.Native.Nat.{◌≤◌}
 use native.Mathlib.Omega.{arith}
 use Rattle.std.proofs.lemmas.Bool.Decides.{nat_tests}
-use Rattle.std.proofs.Common.{Some, Ok}
-use Rattle.history.specs.Test.{Answer, contradict, counted, import_test, number_of, Consistent, Exempts}
+use Rattle.std.proofs.Common.{Option, Some, Ok}
+use Rattle.history.specs.Test.{Answer, Refused, contradict, enough, counted, judged, judged_if, choose, import_test, number_of, Consistent, Exempts}
 use Rattle.history.specs.declared.Window.{Window}
 use Rattle.history.specs.declared.History.{History}
+
+module _ (h : History) where
+  abbrev three : Window
+  three = h.three
+
+  abbrev six : Window
+  six = h.six
+
+  pub refuses : contradict h ≡ true → import_test h ≡ Refused
+  unfolding import_test
+  refuses e = ap (λ (b : Bool). choose b Refused (Ok (judged_if (counted h)))) e
+
+  answers : contradict h ≡ false → import_test h ≡ Ok (judged_if (counted h))
+  unfolding import_test
+  answers e = ap (λ (b : Bool). choose b Refused (Ok (judged_if (counted h)))) e
+
+  pub by_three : contradict h ≡ false → enough three ≡ true → import_test h ≡ Ok (judged three)
+  unfolding counted
+  by_three e t = answers e ∙ simp t
+
+  pub by-six : contradict h ≡ false → enough three ≡ false → enough six ≡ true → import_test h ≡ Ok (judged six)
+  unfolding counted
+  by-six e t s = answers e ∙ simp (t, s)
+
+  pub by-none : contradict h ≡ false → enough three ≡ false → enough six ≡ false → import_test h ≡ Ok false
+  unfolding counted
+  by-none e t s = answers e ∙ simp (t, s)
+
+judged-number : (w : Option Window) → number_of (Ok (judged_if w)) ≡ 0
+judged-number w = of (judged_if w)
+  where
+    of : (b : Bool) → number_of (Ok b) ≡ 0
+    of true = refl
+    of false = refl
 
 -- four times the loss of the window that counts fits
 pub counted_loss : (h : History) (w : Window) → contradict h ≡ false → counted h ≡ Some w → w.loss ≤ 1000000000

@@ -33,6 +33,10 @@ by-test true b f g = sym (f refl)
 by-test false true f g = g refl
 by-test false false f g = refl
 
+pub same_key-sym : (k l : Key) → same_key k l ≡ same_key l k
+same_key-sym k l =
+    by-test (same_key k l) (same_key l k) (λ h. rw (same_key-eq k l h) (same_key-refl l)) (λ h. rw (same_key-eq l k h) (same_key-refl k))
+
 -- ---- a key in range
 pub record KeyBounds (k : Key) : Type 0 where
   pub kind-low : import ≤ k.kind

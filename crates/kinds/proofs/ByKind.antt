@@ -88,6 +88,10 @@ module _ (kind : ℕ) where
   unfolding rules_of
   rules-6 e = kind-6 kind _ _ _ _ _ _ _ e
 
+  pub rules-none : (kind ≡ import → ⊥) → (kind ≡ export → ⊥) → (kind ≡ hour_ahead → ⊥) → (kind ≡ wheel → ⊥) → (kind ≡ quarter_hour → ⊥) → (kind ≡ virtual → ⊥) → rules_of kind ≡ no_rules
+  unfolding rules_of
+  rules-none n1 n2 n3 n4 n5 n6 = kind-none kind _ _ _ _ _ _ _ n1 n2 n3 n4 n5 n6
+
   -- what holds of each kind's row holds of a kind's
   pub by-rules : (P : Rules → Type 0) → is_kind kind ≡ true → (kind ≡ import → P import_rules) → (kind ≡ export → P export_rules) → (kind ≡ hour_ahead → P hour_ahead_rules)
       → (kind ≡ wheel → P wheel_rules) → (kind ≡ quarter_hour → P quarter_hour_rules) → (kind ≡ virtual → P virtual_rules) → P (rules_of kind)

@@ -1,29 +1,33 @@
 -- The table of each message: no row has the number 0, and its parts stand one below the other.
 -- Assumes nothing.
 use mathlib.Core.Path.{◌≡◌, refl, sym, ap, ◌∙◌}
-use mathlib.Core.Bool.{Bool, true, not, ◌&&◌}
+use mathlib.Core.Bool.{Bool, true, false, not, cond, ◌&&◌}
 use mathlib.Core.List.{List, [], ◌∷◌, ◌++◌}
 use Prim.Native.Nat.{ℕ}
 use lib.Dec.{leb, eqb}
 use lib.IntN.{ℤ}
+use borrow.Author.Tests.{eqb-true}
 use Rattle.std.proofs.lemmas.List.{append_assoc}
-use Rattle.refusals.specs.Refusals.{Row, row, Verdict, refuse, accept, judge}
-use Rattle.refusals.proofs.Laws.{numbered, numbered-append, judge-accept, stopped, passed}
+use Rattle.refusals.specs.Refusals.{Row, row, first, Verdict, refuse, accept, answered, judge, or_else}
+use Rattle.refusals.specs.Figures.{refusal_of}
+use Rattle.refusals.specs.declared.Bid.{Bid}
+use Rattle.refusals.proofs.Laws.{numbered, first-append, numbered-append, judge-accept, stopped, passed}
 use Rattle.bids.specs.Rows.{bid_rows}
 use Rattle.deliveries.specs.Rows.{delivery_rows, bill_rows}
-use Rattle.kinds.specs.Kinds.{rules_of, bid_stage, billed_stage}
+use Rattle.kinds.specs.Kinds.{is_kind, kind_row, rules_of, bid_stage, billed_stage}
+use Rattle.bids.specs.Entries.{bid_verdict}
 use Rattle.bids.proofs.Curves.{bid-rows-numbered}
 use Rattle.deliveries.proofs.Numbered.{delivery-rows-numbered, bill-rows-numbered}
-use Rattle.intervals.specs.Intervals.{curves_rows}
-use Rattle.intervals.proofs.Laws.{curves-rows-numbered}
+use Rattle.intervals.specs.Intervals.{curves_rows, curves_verdict}
+use Rattle.intervals.proofs.Laws.{curves-rows-numbered, curves-refusal-is}
 use Rattle.closings.proofs.Laws.{close-rows-numbered}
-use Rattle.virtuals.specs.Virtuals.{side_rows, mwh_rows}
-use Rattle.virtuals.proofs.Laws.{side-rows-numbered, mwh-rows-numbered}
+use Rattle.virtuals.specs.Virtuals.{side_rows, mwh_rows, bid_verdict as sides_verdict}
+use Rattle.virtuals.proofs.Laws.{side-rows-numbered, mwh-rows-numbered, bid-number}
 use Rattle.keys.specs.declared.Key.{Key}
 use Rattle.keys.specs.Keys.{key_rows}
 use Rattle.records.specs.declared.types.Record.{Record}
 use Rattle.records.specs.Records.{is_free}
-use Rattle.messages.specs.Plan.{Deed, Message, Open, Revise, Withdraw, Post, Finish, Bill, Pay, Support, OpenCurves, ReviseCurves, Close, OpenSides, ReviseSides, PostSides, zone_key, stage_rows, plan_rows}
+use Rattle.messages.specs.Plan.{Deed, Message, Opening, Curves, Sides, Open, Revise, Withdraw, Post, Finish, Bill, Pay, Support, OpenCurves, ReviseCurves, Close, OpenSides, ReviseSides, PostSides, zone_key, stage_rows, plan_rows}
 
 -- ---- no row has the number 0
 pub key-rows-numbered : (k : Key) → numbered (key_rows k) ≡ true
@@ -86,6 +90,103 @@ plan-rows-numbered old (PostSides p) ms ps =
     numbered-append (key_rows key) _ (key-rows-numbered key)
     (numbered-append (mwh_rows p.load p.supply) _ (mwh-rows-numbered p.load p.supply)
     (numbered-append (stage_rows old stage) _ (stage-rows-numbered old stage) (one-numbered 13 (not (leb p.load old.mwh && leb p.supply old.supply.mwh)) refl)))
+
+-- ---- one table below another, by what each gives
+pub key_above : (k : Key) (rest : List Row) → first (key_rows k ++ rest) ≡ or_else (first (key_rows k)) (first rest)
+key_above k rest = first-append (key_rows k) rest (key-rows-numbered k)
+
+pub last_row : (n : ℕ) (t : Bool) → first (row n t ∷ []) ≡ cond t n 0
+unfolding first
+last_row n t = refl
+
+pub stage-above : (old : Record) (right : Bool) (rest : List Row) → first (stage_rows old right ++ rest) ≡ or_else (first (stage_rows old right)) (first rest)
+stage-above old right rest = first-append (stage_rows old right) rest (stage-rows-numbered old right)
+
+pub delivery-above : (kind mwh : ℕ) (price second : ℤ) (rest : List Row) → first (delivery_rows kind mwh price second ++ rest) ≡ or_else (first (delivery_rows kind mwh price second)) (first rest)
+delivery-above kind mwh price second rest = first-append (delivery_rows kind mwh price second) rest (delivery-rows-numbered kind mwh price second)
+
+pub bill-above : (cents : ℤ) (rest : List Row) → first (bill_rows cents ++ rest) ≡ or_else (first (bill_rows cents)) (first rest)
+bill-above cents rest = first-append (bill_rows cents) rest (bill-rows-numbered cents)
+
+-- ---- the number that the library's bid answers
+bid-by : (t : Bool) (n : ℕ) (bid : Bid) → eqb n 0 ≡ t → refusal_of (cond t (accept bid) (refuse n)) ≡ n
+bid-by true n bid e = sym (eqb-true n 0 e)
+bid-by false n bid e = refl
+
+bid-refusal : (kind : ℕ) (ms : List ℕ) (ps : List ℤ) (differential : ℕ) (exempt : Bool) → refusal_of (bid_verdict kind ms ps differential exempt) ≡ first (kind_row kind ∷ bid_rows kind ms ps differential)
+unfolding bid_verdict judge answered
+bid-refusal kind ms ps differential exempt = let n = first (kind_row kind ∷ bid_rows kind ms ps differential) in bid-by (eqb n 0) n _ refl
+
+-- the number that it answers to an open or a revise
+abbrev pub bid_number : Opening → List ℕ → List ℤ → ℕ
+bid_number o ms ps = refusal_of (bid_verdict o.key.kind ms ps o.differential o.exempt)
+
+-- the library tests the kind again, which the key's rows have passed
+kind-by : (t : Bool) (rest n below : ℕ) → or_else (cond (not t) 2 rest) (or_else (cond (not t) 2 n) below) ≡ or_else (cond (not t) 2 rest) (or_else n below)
+unfolding or_else
+kind-by true rest n below = refl
+kind-by false rest n below = refl
+
+kind-once : (k : Key) (rows : List Row) (below : ℕ) → or_else (first (key_rows k)) (or_else (first (kind_row k.kind ∷ rows)) below) ≡ or_else (first (key_rows k)) (or_else (first rows) below)
+unfolding first key_rows
+kind-once k rows below = kind-by (is_kind k.kind) _ (first rows) below
+
+bid-above : (o : Opening) (ms : List ℕ) (ps : List ℤ) (rest : List Row) → first (key_rows o.key ++ (bid_rows o.key.kind ms ps o.differential ++ rest)) ≡ or_else (first (key_rows o.key)) (or_else (bid_number o ms ps) (first rest))
+bid-above o ms ps rest =
+    let rows = bid_rows o.key.kind ms ps o.differential in
+    key_above o.key (rows ++ rest)
+    ∙ ap (or_else (first (key_rows o.key))) (first-append rows rest (bid-rows-numbered o.key.kind ms ps o.differential))
+    ∙ sym (kind-once o.key rows (first rest))
+    ∙ ap (λ (n : ℕ). or_else (first (key_rows o.key)) (or_else n (first rest))) (sym (bid-refusal o.key.kind ms ps o.differential o.exempt))
+
+pub open-table : (old : Record) (o : Opening) (ms : List ℕ) (ps : List ℤ) → or_else (first (key_rows o.key)) (or_else (bid_number o ms ps) (cond (not (is_free old)) 10 0)) ≡ first (plan_rows old (Open o) ms ps)
+open-table old o ms ps =
+    let free = row 10 (not (is_free old)) ∷ [] in sym (bid-above o ms ps free ∙ ap (λ (n : ℕ). or_else (first (key_rows o.key)) (or_else (bid_number o ms ps) n)) (last_row 10 (not (is_free old))))
+
+pub revise-table : (old : Record) (o : Opening) (ms : List ℕ) (ps : List ℤ) → or_else (first (key_rows o.key)) (or_else (bid_number o ms ps) (first (stage_rows old (eqb old.stage bid_stage)))) ≡ first (plan_rows old (Revise o) ms ps)
+revise-table old o ms ps = sym (bid-above o ms ps (stage_rows old (eqb old.stage bid_stage)))
+
+-- ---- four curves (02, order 3)
+abbrev pub curves_number : Curves → List ℕ → List ℤ → ℕ
+curves_number c ms ps = refusal_of (curves_verdict c.key.kind c.counts ms ps)
+
+curves-above : (c : Curves) (ms : List ℕ) (ps : List ℤ) (rest : List Row) → first (key_rows c.key ++ (curves_rows c.key.kind c.counts ms ps ++ rest)) ≡ or_else (first (key_rows c.key)) (or_else (curves_number c ms ps) (first rest))
+curves-above c ms ps rest =
+    let rows = curves_rows c.key.kind c.counts ms ps in
+    key_above c.key (rows ++ rest)
+    ∙ ap (or_else (first (key_rows c.key))) (first-append rows rest (curves-rows-numbered c.key.kind c.counts ms ps))
+    ∙ sym (kind-once c.key rows (first rest))
+    ∙ ap (λ (n : ℕ). or_else (first (key_rows c.key)) (or_else n (first rest))) (sym (curves-refusal-is c.key.kind c.counts ms ps))
+
+pub open-curves-table : (old : Record) (c : Curves) (ms : List ℕ) (ps : List ℤ) → or_else (first (key_rows c.key)) (or_else (curves_number c ms ps) (cond (not (is_free old)) 10 0)) ≡ first (plan_rows old (OpenCurves c) ms ps)
+open-curves-table old c ms ps =
+    let free = row 10 (not (is_free old)) ∷ [] in sym (curves-above c ms ps free ∙ ap (λ (n : ℕ). or_else (first (key_rows c.key)) (or_else (curves_number c ms ps) n)) (last_row 10 (not (is_free old))))
+
+pub revise-curves-table : (old : Record) (c : Curves) (ms : List ℕ) (ps : List ℤ) → or_else (first (key_rows c.key)) (or_else (curves_number c ms ps) (first (stage_rows old (eqb old.stage bid_stage)))) ≡ first (plan_rows old (ReviseCurves c) ms ps)
+revise-curves-table old c ms ps = sym (curves-above c ms ps (stage_rows old (eqb old.stage bid_stage)))
+
+-- ---- two sides (02, order 6)
+abbrev pub sides_number : Sides → ℕ
+sides_number s = refusal_of (sides_verdict s.load s.supply)
+
+sides-above : (s : Sides) (rest : List Row) → first (key_rows (zone_key s.zone s.hour) ++ (side_rows s.load s.supply ++ rest)) ≡ or_else (first (key_rows (zone_key s.zone s.hour))) (or_else (sides_number s) (first rest))
+sides-above s rest =
+    let key = zone_key s.zone s.hour in
+    let rows = side_rows s.load s.supply in
+    key_above key (rows ++ rest)
+    ∙ ap (or_else (first (key_rows key))) (first-append rows rest (side-rows-numbered s.load s.supply))
+    ∙ ap (λ (n : ℕ). or_else (first (key_rows key)) (or_else n (first rest))) (sym (bid-number s.load s.supply))
+
+pub open-sides-table : (old : Record) (s : Sides) (ms : List ℕ) (ps : List ℤ) → or_else (first (key_rows (zone_key s.zone s.hour))) (or_else (sides_number s) (cond (not (is_free old)) 10 0)) ≡ first (plan_rows old (OpenSides s) ms ps)
+open-sides-table old s ms ps =
+    let free = row 10 (not (is_free old)) ∷ [] in
+    sym (sides-above s free ∙ ap (λ (n : ℕ). or_else (first (key_rows (zone_key s.zone s.hour))) (or_else (sides_number s) n)) (last_row 10 (not (is_free old))))
+
+pub revise-sides-table : (old : Record) (s : Sides) (ms : List ℕ) (ps : List ℤ) → or_else (first (key_rows (zone_key s.zone s.hour))) (or_else (sides_number s) (first (stage_rows old (eqb old.stage bid_stage)))) ≡ first (plan_rows old (ReviseSides s) ms ps)
+revise-sides-table old s ms ps = sym (sides-above s (stage_rows old (eqb old.stage bid_stage)))
+
+pub mwh-above : (load supply : ℕ) (rest : List Row) → first (mwh_rows load supply ++ rest) ≡ or_else (first (mwh_rows load supply)) (first rest)
+mwh-above load supply rest = first-append (mwh_rows load supply) rest (mwh-rows-numbered load supply)
 
 -- ---- one table above another, as the code asks them
 module _ (above rest : List Row) (x : Deed) (h : numbered above ≡ true) where

@@ -171,5 +171,11 @@ unfolding ok_place
 free_place r free =
     by-test (is_blank r) (is_blank r || ok_record r) (λ h. rw h) (λ h. ap is_blank (place-free r h free) ∙ blank-blank)
 
+pub free-place : (r : Record) → is_free r ≡ true → is_blank r ≡ ok_place r
+free-place r free = free_place r free
+
 pub used_place : (r : Record) → is_free r ≡ false → ok_record r ≡ ok_place r
 used_place r used = by-test (ok_record r) (ok_place r) (ok-place r) (λ h. place-used r h used)
+
+pub used-place : (r : Record) → is_free r ≡ false → ok_record r ≡ ok_place r
+used-place r used = used_place r used

@@ -1,19 +1,20 @@
 -- The two sides that no row refuses; what an entry answers; and that posting never asks for more than the bid did.
 -- Assumes nothing.
-use mathlib.Core.Path.{◌≡◌, refl}
+use mathlib.Core.Path.{◌≡◌, refl, sym, ap, ◌∙◌}
 use mathlib.Core.Bool.{Bool, true, false, cond, ◌&&◌}
 use Prim.Native.Nat.{ℕ, ◌-◌, ◌*◌, ◌≤◌, ◌<◌}
 use native.Mathlib.Nat.{zero-mul, le_trans, le_refl}
 use native.Mathlib.Omega.{arith}
-use borrow.Author.Tests.{lt-ltb, le-ltb, ltb-true, ltb-false, eqb-true, leb-true, not-false}
+use borrow.Author.Tests.{lt-ltb, le-ltb, ltb-true, ltb-false, eqb-true, eqb-false, leb-true, not-false}
 use lib.Dec.{ltb, eqb}
 use lib.IntN.{pos}
 use lib.Signed.{◌≤ℤ◌}
 use Rattle.amounts.specs.Amount.{Range}
 use Rattle.amounts.specs.Limits.{is_differential}
 use Rattle.amounts.proofs.Signed.{signed, larger-of, mul_mono, tested}
-use Rattle.refusals.specs.Refusals.{None, accept}
-use Rattle.refusals.proofs.Laws.{numbered, and_left, and_right, judge-none}
+use Rattle.refusals.specs.Refusals.{first, None, judge, accept, refuse}
+use Rattle.refusals.specs.Figures.{refusal_of}
+use Rattle.refusals.proofs.Laws.{numbered, and_left, and_right, none-applies, judge-none, answered-some}
 use Rattle.virtuals.specs.Virtuals.{Side, Supply, no_supply, is_no_supply, is_side_mwh, side_rows, mwh_rows, virtual_bid, virtual_posted, bid_verdict, posted_verdict, PostedOf, PostingAsksNoMore}
 
 module _ (load supply : Side) where
@@ -39,13 +40,31 @@ module _ (load supply : Side) where
   unfolding bid_verdict
   bid-accepted h = judge-none (side_rows load supply) (virtual_bid load supply) h
 
+  pub bid-refused : (first (side_rows load supply) ≡ 0 → ⊥) → bid_verdict load supply ≡ refuse (first (side_rows load supply))
+  unfolding bid_verdict judge
+  bid-refused h = answered-some (first (side_rows load supply)) (virtual_bid load supply) h
+
   pub posted-accepted : None (side_rows load supply) → posted_verdict load supply ≡ accept (virtual_posted load supply)
   unfolding posted_verdict
   posted-accepted h = judge-none (side_rows load supply) (virtual_posted load supply) h
 
+  pub posted-refused : (first (side_rows load supply) ≡ 0 → ⊥) → posted_verdict load supply ≡ refuse (first (side_rows load supply))
+  unfolding posted_verdict judge
+  posted-refused h = answered-some (first (side_rows load supply)) (virtual_posted load supply) h
+
 pub mwh-rows-numbered : (load supply : ℕ) → numbered (mwh_rows load supply) ≡ true
 unfolding numbered mwh_rows
 mwh-rows-numbered load supply = refl
+
+-- the number that an entry answers is that of the rows
+module _ (load supply : Side) where
+  abbrev number : ℕ
+  number = first (side_rows load supply)
+
+  pub bid-number : refusal_of (bid_verdict load supply) ≡ first (side_rows load supply)
+  bid-number =
+      tested (eqb number 0) (λ e. ap refusal_of (bid-accepted load supply (none-applies (side_rows load supply) (side-rows-numbered load supply) (eqb-true number 0 e))) ∙ sym (eqb-true number 0 e))
+      (λ e. ap refusal_of (bid-refused load supply (eqb-false number 0 e)))
 
 -- ---- the supply side that a record keeps
 
