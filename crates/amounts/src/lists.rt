@@ -1,4 +1,4 @@
-// The ranges of lists.
+// The ranges of lists. All numbers are tested, with no way out at the first that is out of range: so the compiler tests several at a time.
 ghost use Rattle.std.specs.Prelude.{◌≡◌};
 ghost use Rattle.amounts.specs.Limits.{is_point_mwh, is_price};
 ghost use Rattle.amounts.specs.Lists.{every};
@@ -9,11 +9,19 @@ use crate::{Price, Quantity};
 pub fn points_in_range(mwh: &[u64]) -> bool
     ensures { result ≡ every is_point_mwh mwh.now }
 {
-    mwh.iter().all(|&mwh| mwh <= Quantity::MAX_POINT)
+    let mut fit = true;
+    for &mwh in mwh {
+        fit &= mwh <= Quantity::MAX_POINT;
+    }
+    fit
 }
 
 pub fn prices_in_range(prices: &[i64]) -> bool
     ensures { result ≡ every is_price prices.now }
 {
-    prices.iter().all(|&cents| Price { cents }.in_range())
+    let mut fit = true;
+    for &cents in prices {
+        fit &= Price { cents }.in_range();
+    }
+    fit
 }

@@ -1,10 +1,15 @@
--- `points_in_range`: what `all` answers is whether each of them is in range.
-use Rattle.std.proofs.Common.{rules, tests}
-use Rattle.std.proofs.lemmas.Iterator.{YieldsList-from_slice}
-use Rattle.std.proofs.lemmas.Iterator.Search.{all_from_yields_List}
+-- `points_in_range`: `fit` says whether the numbers passed are in range.
+use mathlib.Core.Path.{sym, ◌∙◌}
 use Rattle.amounts.specs.Limits.{is_point_mwh}
-use Rattle.amounts.proofs.Every.{every_from_list_all}
+use Rattle.amounts.proofs.Every.{every_on, every_end}
 use Rattle.amounts.proofs.lists.points_in_range.Goals as goal
 
+pub loop-mwh-preserved : goal.loop-mwh-preserved
+loop-mwh-preserved c =
+    let at = c.loop-mwh in
+    every_on is_point_mwh c.args.mwh.now at.mwh-index 0 at.fit c.loop-mwh-test.true ∙ at.invariant
+
 pub returns : goal.returns
-returns c = every_from_list_all is_point_mwh _ (all_from_yields_List is_point_mwh _ _ _ c.all.ensures.ran (YieldsList-from_slice c.args.mwh.now cc) (λ x b q k. search (rules, tests)))
+returns c =
+    let at = c.loop-mwh in
+    sym (every_end is_point_mwh c.args.mwh.now at.mwh-index at.fit c.loop-mwh-test.false at.auto.mwh-index-end) ∙ at.invariant
