@@ -168,16 +168,19 @@ pub(crate) fn probed(book: &Book, tally: &mut Tally, sent: &Sent) {
         aside = Book::rebuilt(before.support, aside.records);
     }
     tally.digest = trials::screened(&aside, tally.digest);
+    let told = aside.suspended();
+    let kept = aside.account;
     let outcome = aside.apply(ask.message(), &sent.numbers, &sent.prices);
     let answer = outcome.answer;
     let seen = Seen {
         answer,
+        // Last of what is asked of the book, so that it needs no copy of it.
         sound: aside.is_sound(),
-        told: aside.suspended(),
+        told,
         was_sound,
         now: book.account,
         before,
-        aside: aside.account,
+        aside: kept,
     };
     if seen.refused() {
         tally

@@ -130,7 +130,7 @@ impl Place {
     pub(crate) fn drawn(seed: u64, open: u64) -> Place {
         let w = draw(seed, Choice::Place);
         Place::of(if w % 2 == 0 {
-            w / 2 % open.saturating_add(1)
+            w / 2 % (open % 257 + 1)
         } else {
             w / 2
         })

@@ -1,12 +1,12 @@
 // The lists beside a message: points, of one curve or of four, and the prices of a close.
-ghost use Rattle.std.specs.Prelude.{◌≤◌};
+ghost use Rattle.std.specs.Prelude.{◌≤◌, ◌≡◌, IfOk};
+ghost use Rattle.std.specs.Vec.{vec_len};
 
 use crate::digest::mix;
 use crate::generator::{Choice, draw, has};
 use crate::{generator, values};
 use refusals::Refusal;
 use std::alloc::{AllocError, Global};
-use std::iter;
 
 // How many points each interval is said to have, and how many MWh and how many prices there are.
 #[derive(Clone, Copy)]
@@ -185,10 +185,14 @@ fn drawn<T: Drop, F: Fn(u64) -> T>(
     value: F,
 ) -> Result<Vec<T>, AllocError>
     requires { (f : _) (a : _) → F.FnMut.pre f a }
+    ensures { IfOk result (λ list. vec_len list ≡ count) }
 {
-    iter::successors(Some(generator::next(first)), |x| Some(generator::next(*x)))
-        .take(count as usize)
-        .map(value)
+    let mut x = first;
+    (0..count)
+        .map(|_| {
+            x = generator::next(x);
+            value(x)
+        })
         .collect(alloc)
 }
 
@@ -202,13 +206,17 @@ fn put_out<T: Copy>(seed: u64, list: &mut [T], fault: Refusal, out: &[T; 8]) {
 }
 
 // The quantities.
-pub(crate) fn mwh_points(alloc: Global, seed: u64, count: u64) -> Result<Vec<u64>, AllocError> {
+pub(crate) fn mwh_points(alloc: Global, seed: u64, count: u64) -> Result<Vec<u64>, AllocError>
+    ensures { IfOk result (λ list. vec_len list ≡ count) }
+{
     let mut list = drawn(alloc, draw(seed, Choice::Points), count, values::mwh)?;
     put_out(seed, &mut list, Refusal::Quantity, &values::POINT_MWH_OUT);
     Ok(list)
 }
 
-pub(crate) fn price_points(alloc: Global, seed: u64, count: u64) -> Result<Vec<i64>, AllocError> {
+pub(crate) fn price_points(alloc: Global, seed: u64, count: u64) -> Result<Vec<i64>, AllocError>
+    ensures { IfOk result (λ list. vec_len list ≡ count) }
+{
     let first = mix(draw(seed, Choice::Points), 7);
     let mut list = drawn(alloc, first, count, |x| {
         values::price_or(&values::PRICES, x)

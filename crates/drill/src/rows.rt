@@ -1,6 +1,6 @@
 // The rows of the table: where its parts begin, what they have room for, and what is counted in them.
 use crate::ask::Case;
-use crate::generator::has;
+use crate::generator::{MODULUS, has};
 use book::Answer;
 use refusals::Refusal;
 
@@ -185,7 +185,7 @@ impl Counts {
 
     fn add(&mut self, row: u64) {
         if let Some(met) = self.met.get_mut(row as usize) {
-            *met = met.saturating_add(1);
+            *met = *met % MODULUS + 1;
         }
     }
 

@@ -5,7 +5,7 @@ use crate::tally::{Tally, Turn};
 use crate::trials::Sent;
 use crate::{asides, questions, report, trials, values};
 use book::{Answer, Book};
-use std::io;
+use std::alloc::{AllocError, Global};
 use std::ops::Range;
 
 // How many turns, which of them have a line, and the first one's seed.
@@ -35,21 +35,14 @@ fn begun(tally: &mut Tally, support: i64) -> Book {
     outcome.book
 }
 
-fn turn<R: Print + AllocGlobal>(
-    rt: &R,
-    plan: &Plan,
-    tally: &mut Tally,
-    book: &mut Book,
-) -> io::Result<()> {
+// What a turn sends, and what it asks and sets aside before.
+fn drawn(alloc: Global, tally: &mut Tally, book: &Book) -> Result<Sent, AllocError> {
     let seed = tally.seed;
-    let account = book.account;
     let record = book.records[Place::drawn(seed, tally.open).at];
-    let mut sent = Sent::drawn(rt.alloc(), seed, &tally.standing(), book, &record)?;
-    let tight = sent.ask.is_tight(seed, &tally.standing());
-    if tight {
+    let mut sent = Sent::drawn(alloc, seed, &tally.standing(), book, record)?;
+    if sent.tight {
         sent.ask = sent.ask.funding(seed, sent.tried(book));
     }
-    let ask = sent.ask;
     tally.digest = questions::answered(seed, tally.digest, &mut tally.counts);
     if tally.turn % 4 == 3 {
         asides::probed(book, tally, &sent);
@@ -57,14 +50,26 @@ fn turn<R: Print + AllocGlobal>(
     if tally.turn % 64 == 0 {
         tally.digest = trials::shown(book, tally.digest);
     }
-    let outcome = book.apply(ask.message(), &sent.numbers, &sent.prices);
-    let answer = outcome.answer;
+    Ok(sent)
+}
+
+// The turn's message to this book, answered.
+fn noted(
+    rt: &impl Print,
+    plan: &Plan,
+    tally: &mut Tally,
+    book: &Book,
+    sent: &Sent,
+    answer: Answer,
+) {
+    let ask = sent.ask;
+    let account = book.account;
     let closed = ask.case == Case::Close && !matches!(answer, Answer::Refused { .. });
     tally.noted(&Turn {
-        seed,
+        seed: tally.seed,
         ask,
         answer,
-        record,
+        record: sent.record,
         account,
         full: tally.is_full(),
         short: tally.is_short(account.support),
@@ -73,22 +78,26 @@ fn turn<R: Print + AllocGlobal>(
         adds_none: closed && sent.tried(book) == account.held,
     });
     if plan.shows(tally.turn) {
-        report::turn(rt, tally, &ask, answer)?;
+        report::turn(rt, tally, &ask, answer);
     }
-    tally.turned(tight);
-    *book = outcome.book;
-    Ok(())
+    tally.turned(sent.tight);
 }
 
 // A fresh book of each support that is at a limit or one past it; the run goes on with the last.
-pub(crate) fn run<R: Print + AllocGlobal>(rt: &R, plan: &Plan) -> io::Result<()> {
+pub(crate) fn run<R: Print + AllocGlobal>(rt: &R, plan: &Plan) {
     let mut tally = Tally::new(plan.seed);
     for support in [-1, 0, values::MOST_SUPPORT + 1] {
         begun(&mut tally, support);
     }
     let mut book = begun(&mut tally, values::MOST_SUPPORT);
+    // The next book is made here and in no function of a turn, which would copy it once more. A turn whose lists find no memory ends the run.
     for _ in 0..plan.turns {
-        turn(rt, plan, &mut tally, &mut book)?;
+        let Ok(sent) = drawn(rt.alloc(), &mut tally, &book) else {
+            break;
+        };
+        let outcome = book.apply(sent.ask.message(), &sent.numbers, &sent.prices);
+        noted(rt, plan, &mut tally, &book, &sent, outcome.answer);
+        book = outcome.book;
     }
-    report::table(rt, &tally)
+    report::table(rt, &tally);
 }

@@ -1,7 +1,7 @@
 // How far a run has come: the next seed, the digest, the counts, and how the book stands.
 use crate::ask::{Ask, Case, Season, Standing};
 use crate::digest::{mix, mix_cents};
-use crate::generator::{Choice, draw};
+use crate::generator::{Choice, MODULUS, draw};
 use crate::rows::{Counts, Row};
 use crate::{ask, values};
 use book::{Account, Answer, Book, Kind, Record};
@@ -145,7 +145,7 @@ impl Tally {
 
     // One more message, answered.
     pub(crate) fn answered(&mut self, answer: Answer) {
-        self.messages = self.messages.saturating_add(1);
+        self.messages = self.messages % MODULUS + 1;
         let first = mix_cents(mix(self.digest, answer.number()), answer.requirement());
         let sums = mix_cents(mix_cents(first, answer.held()), answer.net_owed());
         self.digest = mix(sums, u64::from(answer.removed()));
@@ -204,10 +204,7 @@ impl Tally {
         let place = self.place_row(opens);
         self.counts.count_any(place);
         self.answered(answer);
-        self.open = self
-            .open
-            .saturating_add(u64::from(opens))
-            .saturating_sub(turn.frees());
+        self.open = (self.open % 257 + u64::from(opens)).saturating_sub(turn.frees());
         self.held = answer.held();
         self.owed = answer.net_owed();
     }
@@ -218,7 +215,7 @@ impl Tally {
         if !tight {
             self.seed = draw(self.seed, Choice::Seed);
         }
-        self.turn = self.turn.saturating_add(1);
+        self.turn = self.turn % 1_000_000_000_000 + 1;
         self.most_open = self.most_open.max(self.open);
     }
 }

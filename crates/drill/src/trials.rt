@@ -5,10 +5,13 @@ use crate::{closes, points, values};
 use book::{Account, Book, Record};
 use std::alloc::{AllocError, Global};
 
-// The message that is drawn, with its two lists.
+// The message that is drawn, with its two lists, and the record at the place that is drawn.
 #[derive(Drop)]
 pub(crate) struct Sent {
     pub(crate) ask: Ask,
+    // Whether the turn sets the support for the message first.
+    pub(crate) tight: bool,
+    pub(crate) record: Record,
     pub(crate) numbers: Vec<u64>,
     pub(crate) prices: Vec<i64>,
 }
@@ -19,13 +22,13 @@ impl Sent {
         seed: u64,
         now: &Standing,
         book: &Book,
-        r: &Record,
+        record: Record,
     ) -> Result<Sent, AllocError> {
-        let mut ask = Ask::of(seed, r, now);
+        let mut ask = Ask::of(seed, &record, now);
         let numbers = if ask.case == Case::Close {
             let pending = closes::pending(alloc, book, ask.key.hour, seed)?;
             let bids = pending.len();
-            let paths = closes::listed(pending, seed, r)?;
+            let paths = closes::listed(pending, seed, &record)?;
             ask = ask.closing(seed, bids, paths.len());
             paths
         } else {
@@ -34,6 +37,8 @@ impl Sent {
         let prices = points::price_points(alloc, seed, ask.lengths.prices)?;
         Ok(Sent {
             ask,
+            tight: ask.is_tight(seed, now),
+            record,
             numbers,
             prices,
         })
@@ -41,10 +46,8 @@ impl Sent {
 
     // The held amount that the message would leave with the largest support.
     pub(crate) fn tried(&self, book: &Book) -> i64 {
-        let aside = Book {
-            account: book.account.supported(values::MOST_SUPPORT),
-            ..*book
-        };
+        let mut aside = *book;
+        aside.account = book.account.supported(values::MOST_SUPPORT);
         let outcome = aside.apply(self.ask.message(), &self.numbers, &self.prices);
         outcome.answer.held()
     }

@@ -12,19 +12,23 @@ mod scripts;
 mod word;
 
 use book::Book;
-use std::io;
-use std::io::{BufRead, BufReader, BufWriter, Write};
+use reply::Reply;
+use std::io::Read;
 
-fn main(rt: HostRuntime) -> io::Result<()> {
+// What is read is at most so long.
+const LONGEST: u64 = 131_072;
+
+// All is read before a line is written, so that whoever sends a script need not read in between. A read that fails is the end of it, what cannot be
+// written is passed over, and a message whose lists find no memory is not sent.
+fn main(rt: HostRuntime) {
     let alloc = rt.alloc();
-    let mut out = BufWriter::new(alloc, io::writer(&rt))?;
+    let mut text = Vec::new(alloc);
+    let _ = rt.reader().take(LONGEST).read_to_end(&mut text);
     let mut book = Book::fresh(0).book;
-    for line in BufReader::new(alloc, rt.reader())?.split(alloc, b'\n') {
-        let line = line?;
-        let acted = act::act(alloc, book, &line)?;
-        out.write_all(&line)?;
-        writeln!(out, "{}", acted.reply)?;
-        book = acted.book;
+    for ended in text.split_inclusive(|byte| *byte == b'\n') {
+        let line = ended.strip_suffix(b"\n").unwrap_or(ended);
+        let _ = rt.write_all(line);
+        let reply = act::act(alloc, &mut book, line).unwrap_or(Reply::Nothing);
+        let _ = println!(rt; "{reply}");
     }
-    out.flush()
 }

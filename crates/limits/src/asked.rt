@@ -2,9 +2,16 @@
 use closings::types::Quote;
 use intervals::types::Intervals;
 use refusals::Refusal;
-use std::alloc::{AllocError, Global};
 use std::fmt;
 use virtuals::Side;
+
+// A list is at most so long: one more than a curve has points.
+const MOST: usize = 65;
+
+// The first so many of a list, or all.
+fn first<T>(list: &[T], count: usize) -> &[T] {
+    list.get(..count).unwrap_or(list)
+}
 
 #[derive(Clone, Copy)]
 pub(crate) enum Asked {
@@ -27,18 +34,20 @@ pub(crate) enum Asked {
 }
 
 impl Asked {
-    pub(crate) fn answer(self, alloc: Global) -> Result<Result<i64, Refusal>, AllocError> {
-        Ok(match self {
-            Asked::Bid(kind, quantities, mwh, priced, price, differential) => {
-                let mwh = vec![in alloc; mwh; quantities]?;
-                let prices = vec![in alloc; price; priced]?;
-                bids::bid(kind, &mwh, &prices, differential, false).map(|bid| bid.cents)
-            }
-            Asked::Exposure(quantities, mwh, priced, price) => {
-                let mwh = vec![in alloc; mwh; quantities]?;
-                let prices = vec![in alloc; price; priced]?;
-                bids::price_exposure(&mwh, &prices)
-            }
+    pub(crate) fn answer(self) -> Result<i64, Refusal> {
+        match self {
+            Asked::Bid(kind, quantities, mwh, priced, price, differential) => bids::bid(
+                kind,
+                first(&[mwh; MOST], quantities),
+                first(&[price; MOST], priced),
+                differential,
+                false,
+            )
+            .map(|bid| bid.cents),
+            Asked::Exposure(quantities, mwh, priced, price) => bids::price_exposure(
+                first(&[mwh; MOST], quantities),
+                first(&[price; MOST], priced),
+            ),
             Asked::Posted(kind, differential, schedule, price, second) => formulas::posted(
                 kind,
                 differential,
@@ -72,7 +81,7 @@ impl Asked {
             ),
             Asked::SidesBid(load, supply) => virtuals::bid(load, supply),
             Asked::SidesPosted(load, supply) => virtuals::posted(load, supply),
-        })
+        }
     }
 }
 

@@ -5,18 +5,18 @@ mod asked;
 mod cases;
 
 use asked::Asked;
-use std::io;
 use virtuals::Side;
 
-fn show<R: Print + AllocGlobal>(rt: &R, asked: Asked) -> io::Result<()> {
-    let (refusal, cents) = match asked.answer(rt.alloc())? {
+// A line that cannot be written is passed over.
+fn show(rt: &impl Print, asked: Asked) {
+    let (refusal, cents) = match asked.answer() {
         Ok(cents) => (0, cents),
         Err(refusal) => (refusal.number(), 0),
     };
-    println!(rt; "{asked}: {refusal} {cents}")
+    let _ = println!(rt; "{asked}: {refusal} {cents}");
 }
 
-fn main(rt: HostRuntime) -> io::Result<()> {
+fn main(rt: HostRuntime) {
     let groups = [
         cases::POINTS,
         cases::POINT_VALUES,
@@ -37,7 +37,7 @@ fn main(rt: HostRuntime) -> io::Result<()> {
     ];
     for group in groups {
         for asked in group {
-            show(&rt, *asked)?;
+            show(&rt, *asked);
         }
     }
     for &[load_mwh, load_differential, supply_mwh, supply_differential] in cases::SIDES {
@@ -50,8 +50,7 @@ fn main(rt: HostRuntime) -> io::Result<()> {
             differential: supply_differential,
         };
         // While bid, and once posted.
-        show(&rt, Asked::SidesBid(load, supply))?;
-        show(&rt, Asked::SidesPosted(load, supply))?;
+        show(&rt, Asked::SidesBid(load, supply));
+        show(&rt, Asked::SidesPosted(load, supply));
     }
-    Ok(())
 }

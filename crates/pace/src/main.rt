@@ -10,8 +10,10 @@ mod hour;
 
 use book::{Account, Answer, Book, Message, Outcome};
 use desk::{Groups, Keys};
-use std::io;
 use std::io::Read;
+
+// What is read is at most so long.
+const LONGEST: u64 = 64;
 
 const MODULUS: u64 = 2_147_483_647;
 
@@ -85,9 +87,10 @@ fn run(start: Outcome, groups: Groups, messages: u64, before: u64) -> u64 {
     digest
 }
 
-fn main(rt: HostRuntime) -> io::Result<()> {
+// A read that fails is the end of what is read, and what cannot be written is passed over.
+fn main(rt: HostRuntime) {
     let mut text = Vec::new(rt.alloc());
-    rt.reader().read_to_end(&mut text)?;
+    let _ = rt.reader().take(LONGEST).read_to_end(&mut text);
     let [
         price,
         closes,
@@ -102,9 +105,11 @@ fn main(rt: HostRuntime) -> io::Result<()> {
         keys: Keys::of(hours, paths),
         open: open.min(256),
     };
+    // Before the messages, so that a run that is stopped has said what it sends.
+    let _ = print!(rt; "open {} messages {messages}", groups.open);
     let full = filled(groups);
     let sent = hour::sent(price, closes, opens);
     let asked = asked(full.book.account, questions, sent);
     let digest = run(full, groups, messages, asked);
-    println!(rt; "open {} messages {messages} digest {digest}", groups.open)
+    let _ = println!(rt; " digest {digest}");
 }

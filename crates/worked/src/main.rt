@@ -4,12 +4,10 @@
 mod examples;
 
 use examples::example;
-use std::io;
 
-fn main(rt: HostRuntime) -> io::Result<()> {
+fn main(rt: HostRuntime) {
     for label in 1..=14 {
-        // None of them is refused.
-        println!(rt; "W{label} {}", example(label).unwrap_or(0))?;
+        // None of them is refused. A line that cannot be written is passed over.
+        let _ = println!(rt; "W{label} {}", example(label).unwrap_or(0));
     }
-    Ok(())
 }
