@@ -5,3 +5,4 @@ mod entry;
 pub mod types;
 
 pub use entry::curves;
+pub use types::intervals_or_zero;

@@ -1,8 +1,10 @@
 // A fifteen-minute scheduling bid (02, order 3): the points of its four curves, and their sums.
 ghost use Rattle.std.specs.Prelude.{◌≡◌};
-ghost use Rattle.intervals.specs.Intervals.{no_intervals, intervals_fit, is_none};
+ghost use Rattle.refusals.specs.Refusals.{verdict_of};
+ghost use Rattle.intervals.specs.Intervals.{no_intervals, intervals_in, intervals_fit, is_none};
 
 use amounts::Quantity;
+use refusals::Refusal;
 
 // How many points each interval has; the points stand one interval after another in two lent lists.
 #[derive(Clone, Copy)]
@@ -49,4 +51,11 @@ impl Intervals {
     {
         self == Intervals::none()
     }
+}
+
+// The sums, for a caller that asks for them of a refusal too: a refusal's are 0 throughout.
+pub fn intervals_or_zero(answer: Result<Intervals, Refusal>) -> Intervals
+    ensures { result ≡ intervals_in (verdict_of answer) }
+{
+    answer.unwrap_or(Intervals::none())
 }
