@@ -21,8 +21,8 @@ loop-cents-preserved c =
     let fits : SFits w64 price = search rules in
     let e : c.in_range-fit.result ≡ is_price price = c.in_range-fit.ensures ∙ ap is_price (to_z-of_z {w = w64} fits) in
     ap (λ (b : Bool). (at.fit && b) && every is_price (drop (at.cents-index + 1) ps)) e
-        ∙ every_on is_price ps at.cents-index (pos 0) at.fit c.loop-cents-test.true
-        ∙ at.invariant
+    ∙ every_on is_price ps at.cents-index (pos 0) at.fit c.loop-cents-test.true
+    ∙ at.invariant
 
 pub returns : goal.returns
 returns c =
